@@ -86,7 +86,7 @@ static const struct {
     {"TVK_TOO_MANY_TX", "64 transactions are active, and may be no more"},
     {"TVK_TOO_MANY_LOCKS", "the transaction holds 256 locks, and may hold no more"},
     {"TVK_TOO_MANY_OPS", "4096 operations of the transaction were answered, and may be no more"},
-    {"TVK_TOO_MANY_RUNS", "65535 loads were made, and may be no more"},
+    {"TVK_TOO_MANY_RUNS", "65535 runs have entries, or 4294967294 loads were made"},
     {"TVK_NOT_RISING", "the records of a load don't rise strictly by key, or there are none"},
     {"TVK_BAD_LIMIT", "a number of rows or entries is out of bounds"},
     {"TVK_NO_MEMORY", "memory was refused, and nothing is changed"},

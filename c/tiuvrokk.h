@@ -102,7 +102,7 @@ typedef enum tvk_status {
     TVK_TOO_MANY_TX = 9,     /* TVK_MAX_TX transactions are active */
     TVK_TOO_MANY_LOCKS = 10, /* the transaction holds TVK_MAX_LOCKS locks, and none of them covers this one */
     TVK_TOO_MANY_OPS = 11,   /* TVK_MAX_OPS operations of the transaction were answered */
-    TVK_TOO_MANY_RUNS = 12,  /* TVK_MAX_RUNS loads were made */
+    TVK_TOO_MANY_RUNS = 12,  /* TVK_MAX_RUNS runs have entries that weren't merged, or 4,294,967,294 loads were made */
     TVK_NOT_RISING = 13,     /* the records of a load don't rise strictly by key, or there are none */
     TVK_BAD_LIMIT = 14,      /* a number of rows or entries is out of bounds */
     TVK_NO_MEMORY = 15,      /* memory was refused, and nothing is changed */
@@ -123,7 +123,7 @@ enum {
     TVK_MAX_TX = 64,        /* transactions that are active at once */
     TVK_MAX_LOCKS = 256,    /* locks of a transaction */
     TVK_MAX_OPS = 4096,     /* operations of a transaction */
-    TVK_MAX_RUNS = 65535,   /* loads of a store */
+    TVK_MAX_RUNS = 65535,   /* runs of a store that have entries */
     TVK_MAX_ROWS = 1000,    /* rows of a scan; of tvk_scan_behind one less */
     TVK_MAX_LIMIT = 64      /* entries of a merge or a clean */
 };
@@ -393,7 +393,7 @@ tvk_status tvk_delete(tvk_store *store, uint64_t tx, const void *key, size_t key
  * @retval TVK_NO_TX           no transaction of this number is active
  * @retval TVK_TOO_MANY_OPS    TVK_MAX_OPS operations of the transaction were answered
  * @retval TVK_NOT_RISING      the records don't rise strictly by key, or there are none
- * @retval TVK_TOO_MANY_RUNS   TVK_MAX_RUNS loads were made
+ * @retval TVK_TOO_MANY_RUNS   TVK_MAX_RUNS runs have entries, or 4,294,967,294 loads were made
  * @retval TVK_BUSY            `holder` has a lock that is in the way
  * @retval TVK_TOO_MANY_LOCKS  the transaction holds TVK_MAX_LOCKS locks, and none of them covers the range
  * @retval TVK_NO_MEMORY       memory was refused: for the run, or, in front of TVK_BAD_KEY, for a copy of the records
@@ -427,7 +427,7 @@ tvk_status tvk_load(tvk_store *store, uint64_t tx, const tvk_record *records, si
  * @retval TVK_NO_TX           no transaction of this number is active
  * @retval TVK_TOO_MANY_OPS    TVK_MAX_OPS operations of the transaction were answered
  * @retval TVK_NOT_RISING      there are no records
- * @retval TVK_TOO_MANY_RUNS   TVK_MAX_RUNS loads were made
+ * @retval TVK_TOO_MANY_RUNS   TVK_MAX_RUNS runs have entries, or 4,294,967,294 loads were made
  * @retval TVK_BUSY            `holder` has a lock that is in the way
  * @retval TVK_TOO_MANY_LOCKS  the transaction holds TVK_MAX_LOCKS locks, and none of them covers the range
  * @retval TVK_NO_MEMORY       memory was refused: for a run; or in front of TVK_BAD_KEY for a copy of the records, or in front of
@@ -458,7 +458,7 @@ tvk_status tvk_load_sorting(tvk_store *store, uint64_t tx, const tvk_record *rec
  * @retval TVK_NO_TX           no transaction of this number is active
  * @retval TVK_TOO_MANY_OPS    TVK_MAX_OPS operations of the transaction were answered
  * @retval TVK_NOT_RISING      there are no structs
- * @retval TVK_TOO_MANY_RUNS   TVK_MAX_RUNS loads were made
+ * @retval TVK_TOO_MANY_RUNS   TVK_MAX_RUNS runs have entries, or 4,294,967,294 loads were made
  * @retval TVK_BUSY            `holder` has a lock that is in the way
  * @retval TVK_TOO_MANY_LOCKS  the transaction holds TVK_MAX_LOCKS locks, and none of them covers the range
  * @retval TVK_NO_MEMORY       memory was refused: for a run; or in front of TVK_BAD_KEY for the records, also where so many
@@ -493,7 +493,7 @@ tvk_status tvk_load_structs(tvk_store *store, uint64_t tx, const void *structs, 
  * @retval TVK_NO_TX           no transaction of this number is active
  * @retval TVK_TOO_MANY_OPS    TVK_MAX_OPS operations of the transaction were answered
  * @retval TVK_NOT_RISING      the text is empty
- * @retval TVK_TOO_MANY_RUNS   TVK_MAX_RUNS loads were made
+ * @retval TVK_TOO_MANY_RUNS   TVK_MAX_RUNS runs have entries, or 4,294,967,294 loads were made
  * @retval TVK_BUSY            `holder` has a lock that is in the way
  * @retval TVK_TOO_MANY_LOCKS  the transaction holds TVK_MAX_LOCKS locks, and none of them covers the range
  * @retval TVK_NO_MEMORY       memory was refused: for a run; or in front of TVK_BAD_LINE for the records, or in front of

@@ -123,7 +123,7 @@ async def by_asyncio(port: int) -> None:
         await cancelled(one, other)
     with contextlib.suppress(tiuvrokk.Closed):
         await one.run(lambda tx: tx.get("a"))
-        fail("a client goes on behind its end")
+        fail("a client goes on after its end")
 
 
 async def awaited_calls(one: tiuvrokk.aio.Client, other: tiuvrokk.aio.Client) -> None:
@@ -147,7 +147,7 @@ async def awaited_calls(one: tiuvrokk.aio.Client, other: tiuvrokk.aio.Client) ->
 
 
 async def taken_back(one: tiuvrokk.aio.Client, other: tiuvrokk.aio.Client) -> Any:
-    """What is read behind an exception."""
+    """What is read after an exception."""
     with contextlib.suppress(ZeroDivisionError):
         async with one.transaction() as tx:
             await tx.put("async", str(1 // 1))

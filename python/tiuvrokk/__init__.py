@@ -34,7 +34,7 @@ from ._client import Client, RemoteTransaction, connect
 from ._library import upkeep
 from ._store import Figures, Store, Transaction
 from .errors import (
-    MAX_KEY, MAX_LIMIT, MAX_VALUE, Absent, Bad, BadLine, Busy, Closed, Conflict, Error, Exists, Held, NoMark, NotRising,
+    MAX_KEY, MAX_LIMIT, MAX_VALUE, Absent, Bad, BadLine, Busy, Closed, Conflict, Error, Exists, Held, Lapsed, NoMark, NotRising,
     NoTransaction, OutOfMemory, Refused, Status, TooMany, Twice, Unknown, Unreachable, WrongThread,
 )
 
@@ -43,7 +43,7 @@ __version__ = "1.1.0"
 __all__ = [
     "MAX_KEY", "MAX_VALUE", "MAX_LIMIT", "Store", "Transaction", "Figures", "connect", "Client", "RemoteTransaction", "upkeep", "Status",
     "Error", "Absent", "Exists", "Busy", "NoTransaction", "NoMark", "TooMany", "NotRising", "Twice", "Bad", "BadLine", "Closed",
-    "OutOfMemory", "Refused", "Conflict", "Unreachable", "Unknown", "Held", "WrongThread",
+    "OutOfMemory", "Refused", "Conflict", "Unreachable", "Unknown", "Held", "Lapsed", "WrongThread",
 ]
 
 # A traceback names an exception as a program does.

@@ -16,7 +16,7 @@ from typing import Any, Optional, TypeVar, Union, overload
 
 from ._mapping import MAX_PAGE, MAX_TRIES, RUN, Mapped, Runner
 from ._records import GREATEST, Record, Records, Text, double_line, first_double, line_runs, range_of, runs_of
-from ._wire import GREATEST_KEY, KEY, LEAST_KEY, RECORDS, VALUE, Path, Wire, below_key, ends_of, key_of, number_of, refusal
+from ._wire import GREATEST_KEY, KEY, LAPSED, LEAST_KEY, RECORDS, VALUE, Path, Wire, below_key, ends_of, key_of, number_of, refusal
 from ._wire import rows_of, value_of
 from .errors import MAX_LIMIT, Absent, Closed, Conflict, Error, Exists, NotRising, NoTransaction, OutOfMemory, Refused
 from .errors import Unknown, Unreachable, WrongThread, bad_limit, bad_range, bad_text
@@ -198,20 +198,26 @@ class Client(Runner["RemoteTransaction"]):
         """Aborts the transaction that was begun, if there is one: an interrupt may have kept it from its end."""
         if self._begun is not None:
             self._wire.ask([b"ABORT"])
-            if (begun := self._begun()) is not None:
-                begun._is_taken_back = True
-            self._begun = None
+            self._forget_begun()
+
+    def _forget_begun(self) -> None:
+        if self._begun is not None and (begun := self._begun()) is not None:
+            begun._is_taken_back = True
+        self._begun = None
 
     def _ask(self, wire: Wire, lines: list[bytes]) -> list[bytes]:
         """The answers to lines, before which a transaction that was dropped is aborted."""
         if self._begun is not None and self._begun() is None:
             self._end_begun()
-        return wire.ask(lines)
+        answers = wire.ask(lines)
+        if answers[:1] == [LAPSED] and self._begun is not None:
+            self._forget_begun()
+        return answers
 
 
 class RemoteTransaction(Mapped):
     """A transaction of a server or a replica, by `Client.transaction`. It has what a transaction of an embedded store has, and raises
-    the same exceptions; `Conflict`, `Unreachable` and `Unknown` beside them. Keys have 1 to 32 bytes and values 1 to 64, all of
+    the same exceptions; `Conflict`, `Unreachable`, `Unknown` and `Lapsed` beside them. Keys have 1 to 32 bytes and values 1 to 64, all of
     visible ASCII, and keys no `=`.
 
     What is set at a replica isn't sent before an answer is wanted, or the end: a transaction that only sets, 249 keys at
@@ -477,6 +483,8 @@ class RemoteTransaction(Mapped):
             self._read = None
         self._sent += len(sent)
         answers = self._client._ask(self._wire, sent)
+        if answers[0] == LAPSED:
+            raise refusal(LAPSED, sent[0], self._number)
         if sent[0] == b"BEGIN":
             self._number = number_of(answers[0], b"BEGUN") or 0
         for line, answer in zip([sent[-1], *sent], [answers[-1], *answers]):

@@ -14,7 +14,7 @@ from types import TracebackType
 from typing import Any, Deque, Generic, NoReturn, Optional, TypeVar, Union, overload
 
 from ._records import GREATEST, Record, Records, Text, all_bytes, bytes_of, range_of
-from .errors import Absent, Busy, Conflict, Held, Status, TooMany
+from .errors import Absent, Busy, Conflict, Held, Lapsed, Status, TooMany
 
 Default = TypeVar("Default")
 Result = TypeVar("Result")
@@ -42,11 +42,11 @@ class Unique:
 
 def may_come_right(error: Exception) -> bool:
     """Whether the same transaction may go well a little later."""
-    return isinstance(error, (Busy, Conflict, Held)) or (isinstance(error, TooMany) and error.status is Status.TOO_MANY_TX)
+    return isinstance(error, (Busy, Conflict, Held, Lapsed)) or (isinstance(error, TooMany) and error.status is Status.TOO_MANY_TX)
 
 
-def pause_behind(tried: int) -> float:
-    """How many seconds pass behind so many tries, by chance."""
+def pause_after(tried: int) -> float:
+    """How many seconds pass after so many tries, by chance."""
     return random.uniform(0, min(_FIRST_PAUSE * 2 ** min(tried - 1, 16), _LONGEST_PAUSE))
 
 
@@ -59,8 +59,8 @@ class Runner(Unique, Generic[Tx]):
 
     def run(self, function: Callable[[Tx], Result], tries: int = MAX_TRIES) -> Result:
         """Runs the function in a transaction, and answers what it answers, once that is committed. It runs again where another
-        transaction was in the way (`Busy`, `Conflict`, `Held`, and `TooMany` transactions), `tries` times at most, with pauses
-        that grow; then that is raised. Any other exception aborts the transaction and isn't held. So the function does
+        transaction was in the way (`Busy`, `Conflict`, `Held`, and `TooMany` transactions), or it slept for too long (`Lapsed`),
+        `tries` times at most, with pauses that grow; then that is raised. Any other exception aborts the transaction and isn't held. So the function does
         nothing but ask its transaction."""
 
         def once() -> Result:
@@ -76,10 +76,10 @@ class Runner(Unique, Generic[Tx]):
         for tried in itertools.count(1):
             try:
                 return call()
-            except (Busy, Conflict, Held, TooMany) as error:
+            except (Busy, Conflict, Held, Lapsed, TooMany) as error:
                 if tried == tries or not may_come_right(error):
                     raise
-            time.sleep(pause_behind(tried))
+            time.sleep(pause_after(tried))
         raise AssertionError("not reached")
 
 

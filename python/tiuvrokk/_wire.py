@@ -9,8 +9,8 @@ from collections.abc import Sequence
 from typing import Optional, Union
 
 from ._records import GREATEST, bytes_of
-from .errors import Absent, Bad, Busy, Conflict, Error, Exists, Held, NoMark, NotRising, NoTransaction, OutOfMemory, Refused
-from .errors import Status, TooMany, Unknown, Unreachable, bad_range, bad_text
+from .errors import Absent, Bad, Busy, Conflict, Error, Exists, Held, Lapsed, NoMark, NotRising, NoTransaction, OutOfMemory
+from .errors import Refused, Status, TooMany, Unknown, Unreachable, bad_range, bad_text
 
 Path = Union[str, bytes, "os.PathLike[str]"]
 
@@ -23,7 +23,10 @@ _LIMITS = {
     b"ERR TXS": Status.TOO_MANY_TX, b"ERR LOCKS": Status.TOO_MANY_LOCKS, b"ERR OPS": Status.TOO_MANY_OPS,
     b"ERR RUNS": Status.TOO_MANY_RUNS,
 }  # fmt: skip
-_REFUSALS: dict[bytes, type[Refused]] = {b"ERR CONFLICT": Conflict, b"ERR UNREACHABLE": Unreachable, b"ERR UNKNOWN": Unknown}
+LAPSED = b"ERR IDLE"
+_REFUSALS: dict[bytes, type[Refused]] = {
+    b"ERR CONFLICT": Conflict, b"ERR UNREACHABLE": Unreachable, b"ERR UNKNOWN": Unknown, LAPSED: Lapsed,
+}  # fmt: skip
 _NUMBER = re.compile(rb"[0-9]{1,20}")
 
 

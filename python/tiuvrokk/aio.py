@@ -9,7 +9,7 @@
     asyncio.run(main())
 
 A client is one session, on a thread of its own. It has one transaction at a time: a task that begins another one waits for the end of
-the one before. What runs when its task is cancelled goes on, as the end of a block does, and the next call comes behind it."""
+the one before. What runs when its task is cancelled goes on, as the end of a block does, and the next call comes after it."""
 
 from __future__ import annotations
 
@@ -23,7 +23,7 @@ from typing import TYPE_CHECKING, Any, Optional, TypeVar
 
 from . import _client
 from ._client import RemoteTransaction
-from ._mapping import MAX_TRIES, may_come_right, pause_behind
+from ._mapping import MAX_TRIES, may_come_right, pause_after
 from ._records import GREATEST, Record, Text
 from ._wire import Path
 from .errors import Busy, Closed, Conflict, Held, TooMany
@@ -137,7 +137,7 @@ class Client:
             except (Busy, Conflict, Held, TooMany) as error:
                 if tried >= tries or not may_come_right(error):
                     raise
-            await asyncio.sleep(pause_behind(tried))
+            await asyncio.sleep(pause_after(tried))
         raise AssertionError("not reached")
 
     async def ask(self, function: Callable[[_client.Client], Result]) -> Result:

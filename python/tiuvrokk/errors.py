@@ -49,7 +49,7 @@ _LIMITS = {
     Status.TOO_MANY_TX: (64, "transactions that are active at once", "commit or abort one"),
     Status.TOO_MANY_LOCKS: (256, "locks of a transaction", "tx.lock(lo, hi) first locks a range as one, tx.lock(lo, hi, exclusive=True) to write"),
     Status.TOO_MANY_OPS: (4096, "operations of a transaction", "tx.load adds many records, and tx.scan reads many, as one; or commit, and go on in another"),
-    Status.TOO_MANY_RUNS: (65535, "loads of a store", "larger ones are fewer, and tx[key] = value is none"),
+    Status.TOO_MANY_RUNS: (65535, "runs of a store that have entries", "merge, or load larger ones, and tx[key] = value is none"),
 }
 
 
@@ -248,6 +248,10 @@ class Unknown(Refused):
 
 class Held(Refused):
     """A server's other session holds it."""
+
+
+class Lapsed(Refused):
+    """A server aborted the transaction, since no line of its session came for too long. It may begin anew."""
 
 
 class WrongThread(Error, RuntimeError):

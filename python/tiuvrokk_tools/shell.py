@@ -46,6 +46,8 @@ EPILOG = """status:
   6  standard output can't be written
   7  there was no memory"""
 NAME = "amcli"
+LAPSED = b"ERR IDLE"
+LAPSE = "no line came for too long: the transaction was aborted"
 MOST_FILES = 16
 
 
@@ -138,6 +140,8 @@ class Shell:
             asked = self.spelled(line)
             answer = self.answer(asked)
             self.show(answer)
+            if answer == LAPSED:
+                raise Stop(1, f"{LAPSE}, and the line did nothing")
             if answer in (b"ERR SYNTAX", b"ERR RANGE", b"ERR LONG", b"ERR LIMIT"):
                 raise Stop(2, fault_of_line(asked.decode("utf-8", "surrogateescape")))
 
@@ -175,7 +179,7 @@ class Shell:
         """What the answer says of the session."""
         if answer.startswith(b"BEGUN "):
             self.transaction = shown(answer).partition(" ")[2]
-        elif answer.startswith((b"COMMITTED ", b"ABORTED")):
+        elif answer.startswith((b"COMMITTED ", b"ABORTED")) or answer == LAPSED + b"\n":
             self.transaction = None
         elif answer == b"BYE\n":
             self.has_ended = True
@@ -206,6 +210,7 @@ class Shell:
                 raise
             self.session.hear_all()
             kept = "not all runs were loaded" if self.transaction else "nothing was loaded"
+            self.note_lapse(refused)
             self.abort_own()
             raise Stop(1, f"{refused}: {kept}") from None
         finally:
@@ -242,10 +247,16 @@ class Shell:
             if isinstance(refused, Stop) and refused.status >= 5:
                 raise
             self.abort_own()
+            self.note_lapse(refused)
             raise Stop(1, f"{refused}: not all records were written") from None
         finally:
             progress.end()
         write_all(b"dumped %d\n" % number)
+
+    def note_lapse(self, refused: Exception) -> None:
+        """Where the server aborted the transaction, none is active."""
+        if isinstance(refused, Refused) and refused.answer == LAPSED:
+            self.transaction = None
 
     def abort_own(self) -> None:
         """Ends the transaction of a .load or a .dump."""
@@ -284,6 +295,7 @@ class Shell:
                 self.wanted(b"COMMIT")
         except Refused as refused:
             self.abort_own()
+            self.note_lapse(refused)
             raise Stop(1, f"{refused}: not all records were counted") from None
         write_all(b"%d\n" % number)
 
@@ -295,7 +307,11 @@ class Shell:
 
     def stats(self, _: str) -> None:
         """What the session sees."""
-        _, number, commits = shown(self.session.ask(b"SEEN")).split(" ")
+        answer = self.session.ask(b"SEEN")
+        if answer == LAPSED:
+            self.transaction = None
+            answer = self.session.ask(b"SEEN")
+        _, number, commits = shown(answer).split(" ")
         active = f"transaction {self.transaction}" if self.transaction else "no transaction"
         write_all(f"session {number}, {commits} commits, {active} active\n".encode())
 

@@ -6,6 +6,7 @@ use Rattle.am_serial.specs.Trace.{Trace}
 use Rattle.am_serial.specs.Sound.{IsSound}
 use Rattle.am_effect.specs.Store.{Follows, opened as opened_store}
 use Rattle.am_sound.specs.StoreState.{StoreState, empty_state}
+use Rattle.am_sound.specs.Right.{IsSoundStore}
 use Rattle.am_sound.specs.StateOf.{IsStateOf}
 use Rattle.am_core.specs.StoreSteps.{IsSoundAt, Extends}
 use Rattle.am_core.proofs.StoreSteps.{Sounds, goes_nowhere, goes_further}
@@ -32,6 +33,7 @@ is_alone = record {
   };
   shows = λ old new session commits h. (h.0, h.1, ap alone_of h.2);
   holds = λ s millis answer h. h;
+  lapses = λ h. h;
 }
 
 -- ---- where the store stands
@@ -68,17 +70,17 @@ need_goes = record {
 
 -- ---- the whole
 
-pub spoken : (auto : ℕ) (s0 b : Solo) → s0 ≡ record { kept = empty_state; active = None } →
-    IsStateOf [] empty_state → Sounds → ((trace : Trace) → IsSound trace → IsLegal trace) →
-    ((exchanges : List Exchange) (torn : Option Exchange) (trace : Trace) → IsSound trace →
+pub spoken : (auto : ℕ) (s0 b : Solo) → s0 ≡ record { kept = empty_state 65535; active = None } →
+    IsStateOf [] (empty_state 65535) → Sounds → ((trace : Trace) → IsSound 65535 trace → IsLegal 65535 trace) →
+    ((exchanges : List Exchange) (torn : Option Exchange) (trace : Trace) → IsSound 65535 trace →
     AnswersAlone auto exchanges torn trace → Says (with_torn exchanges torn)) →
-    ((exchanges : List Exchange) (torn : Option Exchange) (trace : Trace) → Follows opened_store trace →
+    ((exchanges : List Exchange) (torn : Option Exchange) (trace : Trace) → Follows 65535 opened_store trace →
     AnswersAlone auto exchanges torn trace →
     All (λ (e : Exchange). IsOneLine (response_text e.1)) (with_torn exchanges torn)) →
     (exchanges : List Exchange) (torn : Option Exchange) (events : Trace) →
     AnswersAll solo_meaning auto s0 exchanges torn events b → IsSpoken auto exchanges torn events
 spoken auto s0 b fresh opened sounds legal_of say lines exchanges torn events answers =
-    let first : Solo = record { kept = empty_state; active = None } in
+    let first : Solo = record { kept = empty_state 65535; active = None } in
     let a : AnswersAll solo_meaning auto first exchanges torn events b =
     subst (λ (s : Solo). AnswersAll solo_meaning auto s exchanges torn events b) fresh answers in
     let taken = conversation_taken solo_meaning alone_meaning alone_of is_alone auto first b exchanges torn events a in
@@ -86,12 +88,13 @@ spoken auto s0 b fresh opened sounds legal_of say lines exchanges torn events an
     let goes : StoreGoes first events b =
     conversation_goes solo_meaning StoreGoes (store_goes sounds) auto first b exchanges torn events a in
     let at : IsSoundAt events b.kept = goes.on [] opened in
+    let sound : IsSoundStore 65535 events = subst (λ n. IsSoundStore n events) goes.most at.sound in
     record {
       answers = alone;
-      sound = at.sound;
-      legal = legal_of events at.sound.sound;
-      says = say exchanges torn events at.sound.sound alone;
-      memory = subst (EachRefusesForNeed empty_state) (append-nil events)
+      sound = sound;
+      legal = legal_of events sound.sound;
+      says = say exchanges torn events sound.sound alone;
+      memory = subst (EachRefusesForNeed (empty_state 65535)) (append-nil events)
           (conversation_goes solo_meaning NeedGoes need_goes auto first b exchanges torn events a [] tt);
-      lines = lines exchanges torn events at.at.follows alone;
+      lines = lines exchanges torn events (subst (λ n. Follows n opened_store events) goes.most at.at.follows) alone;
     }

@@ -61,6 +61,7 @@ solo_meaning = record {
   steps = SoloSteps;
   shows = SoloShows;
   holds = λ s millis answer. AloneHolds answer;
+  lapses = ⊥;
 }
 
 -- The exchanges and events of a session alone, with the one whose answer was torn, if one was: the events are a sound
@@ -68,8 +69,8 @@ solo_meaning = record {
 -- are said, but where memory was refused. The store refused memory only to steps that may want it.
 pub record IsSpoken (auto : ℕ) (exchanges : List Exchange) (torn : Option Exchange) (trace : Trace) : Type 0 where
   pub answers : AnswersAlone auto exchanges torn trace
-  pub sound : IsSoundStore trace
-  pub legal : IsLegal trace
+  pub sound : IsSoundStore 65535 trace
+  pub legal : IsLegal 65535 trace
   pub says : Says (with_torn exchanges torn)
-  pub memory : EachRefusesForNeed empty_state trace
+  pub memory : EachRefusesForNeed (empty_state 65535) trace
   pub lines : All (λ (e : Exchange). IsOneLine (response_text e.1)) (with_torn exchanges torn)

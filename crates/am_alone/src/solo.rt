@@ -35,7 +35,7 @@ impl Model for SoloStore {
 
 impl SoloStore {
     pub(crate) fn new(alloc: Global, hash: HashKey) -> Result<SoloStore, NoMemory>
-        ensures { IfOk result (λ solo. solo ≡ record { kept = empty_state; active = None }) }
+        ensures { IfOk result (λ solo. solo ≡ record { kept = empty_state 65535; active = None }) }
     {
         let store = Store::open(alloc, BTree::new(alloc)?, hash)?;
         Ok(SoloStore {
@@ -61,6 +61,11 @@ impl Backend for SoloStore {
     // Nobody else is there.
     fn hold<W: Wait + Clock>(&self, _rt: &W, _millis: u64) -> HoldAnswer {
         HoldAnswer::Granted
+    }
+
+    // Nobody waits for what it holds.
+    fn may_lapse(&self) -> bool {
+        false
     }
 
     fn await_turn<W: Wait + Clock>(&self, _rt: &W) {}

@@ -28,8 +28,9 @@ use Rattle.am_audit.proofs.Progresses.{stands_on}
 use Rattle.am_audit.proofs.Lifts.{goes_on, is_first}
 
 -- a fault is one of what goes on behind it too
-pub still_faulty : (seen more : Trace) (fault : Fault) → IsTrueFault seen fault → IsTrueFault (seen ++ more) fault
-still_faulty seen more (Wrong line kind) f = record {
+pub still_faulty : (most_runs : ℕ) (seen more : Trace) (fault : Fault) → IsTrueFault most_runs seen fault →
+    IsTrueFault most_runs (seen ++ more) fault
+still_faulty most_runs seen more (Wrong line kind) f = record {
   earlier = f.earlier;
   event = f.event;
   later = f.later ++ more;
@@ -37,37 +38,45 @@ still_faulty seen more (Wrong line kind) f = record {
   legal = f.legal;
   fault = f.fault;
 }
-still_faulty seen more NoMemory f = tt
+still_faulty most_runs seen more NoMemory f = tt
 
-module _ (laws : (trace : Trace) → IsFormed trace → FormedLaws trace) (seen : Trace) (p : Checker)
-    (fault : Option Fault) where
+module _ (laws : (most_runs : ℕ) (trace : Trace) → IsFormed most_runs trace → FormedLaws most_runs trace)
+    (seen : Trace) (p : Checker) (fault : Option Fault) where
+  abbrev most_runs : ℕ
+  most_runs = p.most_runs
+
   right_so_far : fault ≡ None → IsSoFar fault p seen → IsSoFar None p seen
   right_so_far none h = subst (λ f. IsSoFar f p seen) none h
 
   flaw_here : (n : ℕ) (step : Step) (reply : Reply) (event_fault : EventFault) → fault ≡ None → IsSoFar fault p seen →
-      IsEventFault (own_moment p n) step reply event_fault → IsEventFault (progress_of seen) step reply event_fault
-  flaw_here n step reply Form none h w = flaw_there p (answers_at seen) (after_run start seen) (right_so_far none h).0 n
-      step reply Form w
-  flaw_here n step reply Busy none h w = flaw_there p (answers_at seen) (after_run start seen) (right_so_far none h).0 n
-      step reply Busy w
+      IsEventFault most_runs (own_moment p n) step reply event_fault → IsEventFault most_runs (progress_of seen) step
+      reply event_fault
+  flaw_here n step reply Form none h w = flaw_there p (answers_at seen) (after_run start seen) (right_so_far none h).0
+      most_runs n step reply Form w
+  flaw_here n step reply Busy none h w = flaw_there p (answers_at seen) (after_run start seen) (right_so_far none h).0
+      most_runs n step reply Busy w
   flaw_here n step reply (Answer position) none h w =
-      let there = flaw_there p (answers_at seen) (after_run start seen) (right_so_far none h).0 n step reply
-      (Answer position) w in
+      let there = flaw_there p (answers_at seen) (after_run start seen) (right_so_far none h).0 most_runs n
+      step reply (Answer position) w in
       record { t = there.t; formed = there.formed; commit = there.commit; answer = there.answer }
   flaw_here n step reply Starved none h w = tt
 
   pub stands_here : (n : ℕ) → fault ≡ None → IsSoFar fault p seen → IsAt p (own_moment p n)
   stands_here n none h = stands_own p (answers_at seen) (after_run start seen) (right_so_far none h).0 n
 
-  pub goes_wrong : (n : ℕ) (step : Step) (reply : Reply) (q : Checker) (event_fault : EventFault) → fault ≡ None →
-      IsSoFar fault p seen → n ≡ length seen → IsEventFault (own_moment p n) step reply event_fault →
+  pub goes_wrong : (n : ℕ) (step : Step) (reply : Reply) (q : Checker) (event_fault : EventFault) →
+      q.most_runs ≡ most_runs → fault ≡ None →
+      IsSoFar fault p seen → n ≡ length seen → IsEventFault most_runs (own_moment p n) step reply event_fault →
       IsSoFar (Some (fault_of n event_fault)) q (seen ++ (step, reply) ∷ [])
-  goes_wrong n step reply q event_fault none h at w = is_first laws seen (right_so_far none h).1
-      (seen ++ (step, reply) ∷ []) step reply [] refl n at event_fault (flaw_here n step reply event_fault none h w)
+  goes_wrong n step reply q event_fault same none h at w =
+      subst (λ most. IsTrueFault most (seen ++ (step, reply) ∷ []) (fault_of n event_fault)) (sym same)
+      (is_first most_runs (laws most_runs) seen (right_so_far none h).1 (seen ++ (step, reply) ∷ []) step reply [] refl
+      n at event_fault (flaw_here n step reply event_fault none h w))
 
   -- the line that is told is one that was read
   pub is_told : (n : ℕ) (step : Step) (reply : Reply) (event_fault : EventFault) → fault ≡ None → IsSoFar fault p seen →
-      n ≡ length seen → IsEventFault (own_moment p n) step reply event_fault → position_told n event_fault ≤ length seen
+      n ≡ length seen → IsEventFault most_runs (own_moment p n) step reply event_fault →
+      position_told n event_fault ≤ length seen
   is_told n step reply Form none h at w = omega arith
   is_told n step reply Busy none h at w = omega arith
   is_told n step reply (Answer position) none h at w =
@@ -79,21 +88,27 @@ module _ (laws : (trace : Trace) → IsFormed trace → FormedLaws trace) (seen 
       omega arith
   is_told n step reply Starved none h at w = omega arith
 
-  pub goes_right : (n : ℕ) (step : Step) (reply : Reply) (q : Checker) → fault ≡ None → IsSoFar fault p seen →
-      n ≡ length seen → TakesEvent (own_moment p n) step reply q → IsSoFar fault q (seen ++ (step, reply) ∷ [])
-  goes_right n step reply q none h at k =
+  pub goes_right : (n : ℕ) (step : Step) (reply : Reply) (q : Checker) → q.most_runs ≡ most_runs → fault ≡ None →
+      IsSoFar fault p seen →
+      n ≡ length seen → TakesEvent most_runs (own_moment p n) step reply q →
+      IsSoFar fault q (seen ++ (step, reply) ∷ [])
+  goes_right n step reply q same none h at k =
       let right = right_so_far none h in
-      let k' : TakesEvent (progress_of seen) step reply q = takes_there p (answers_at seen) (after_run start seen)
-      right.0 (length seen) step reply q (subst (λ m. TakesEvent (own_moment p m) step reply q) at k) in
+      let k' : TakesEvent most_runs (progress_of seen) step reply q =
+      takes_there p (answers_at seen) (after_run start seen)
+      right.0 most_runs (length seen) step reply q (subst (λ m. TakesEvent most_runs (own_moment p m) step reply q) at
+      k) in
       subst (λ f. IsSoFar f q (seen ++ (step, reply) ∷ [])) (sym none) (
         stands_on q seen step reply k'.stands,
-        goes_on laws seen right.1 step reply k'.right,
+        subst (λ most. IsLegal most (seen ++ (step, reply) ∷ [])) (sym same)
+            (goes_on most_runs (laws most_runs) seen right.1 step reply k'.right),
       )
 
-  pub is_legal : fault ≡ None → IsSoFar fault p seen → IsLegal seen × (p.commits ≡ length (committers (effects seen)))
+  pub is_legal : fault ≡ None → IsSoFar fault p seen → IsLegal most_runs seen ×
+      (p.commits ≡ length (committers (effects seen)))
   is_legal none h =
       let right : IsSoFar None p seen = subst (λ f. IsSoFar f p seen) none h in
-      (right.1, right.0.commits ∙ ap (λ (s : State). s.commits) (sym (laws seen right.1.formed).state))
+      (right.1, right.0.commits ∙ ap (λ (s : State). s.commits) (sym (laws most_runs seen right.1.formed).state))
 
 pub none_there : {A : Type 0} (o : Option A) (b : Bool) → is_some o ≡ not b → b ≡ true → o ≡ None
 none_there None b e f = refl
@@ -103,20 +118,29 @@ pub some_there : {A : Type 0} (o : Option A) (b : Bool) → is_some o ≡ not b 
 some_there o b e f none = true≢false (sym (ap not f) ∙ sym e ∙ ap is_some none)
 
 -- one more event is counted
-pub one_more : (a b : Audit) (seen : Trace) (step : Step) (reply : Reply) → HasJudged a seen → b.seen ≡ a.seen →
+pub one_more : (most_runs : ℕ) (a b : Audit) (seen : Trace) (step : Step) (reply : Reply) → HasJudged most_runs a seen →
+    b.checker.most_runs ≡ a.checker.most_runs → b.seen ≡ a.seen →
     IsSoFar b.fault b.checker (seen ++ (step, reply) ∷ []) →
-    HasJudged (record { checker = b.checker; seen = b.seen + 1; fault = b.fault }) (seen ++ (step, reply) ∷ [])
-one_more a b seen step reply h same so_far = record {
+    HasJudged most_runs (record { checker = b.checker; seen = b.seen + 1; fault = b.fault })
+    (seen ++ (step, reply) ∷ [])
+one_more most_runs a b seen step reply h most same so_far = record {
+  most = most ∙ h.most;
   count = ap (λ n. n + 1) (same ∙ h.count) ∙ sym (length-append seen ((step, reply) ∷ []));
   so_far = so_far;
 }
 
 -- events behind a fault change nothing
-pub stays_wrong : (seen more : Trace) (p q : Checker) (fault : Option Fault) → (fault ≡ None → ⊥) →
-    IsSoFar fault p seen → IsSoFar fault q (seen ++ more)
-stays_wrong seen more p q None some h = absurd (some refl)
-stays_wrong seen more p q (Some fault) some h = still_faulty seen more fault h
+pub stays_wrong : (seen more : Trace) (p : Checker) (fault : Option Fault) → (fault ≡ None → ⊥) →
+    IsSoFar fault p seen → IsSoFar fault p (seen ++ more)
+stays_wrong seen more p None some h = absurd (some refl)
+stays_wrong seen more p (Some fault) some h = still_faulty p.most_runs seen more fault h
 
 pub taken : (trace : Trace) (i : ℕ) (e : Event) → i < length trace → e ≡ get_or trace i e → take i trace ++
     e ∷ [] ≡ take (i + 1) trace
 taken trace i e less is = ap (λ x. take i trace ++ x ∷ []) is ∙ sym (take_more trace i e less)
+
+-- the fault of events that were judged
+pub told_fault : (most_runs : ℕ) (a : Audit) (seen : Trace) (fault : Fault) → a.fault ≡ Some fault →
+    HasJudged most_runs a seen → IsTrueFault most_runs seen fault
+told_fault most_runs a seen fault is h = subst (λ n. IsTrueFault n seen fault) h.most
+    (subst (λ f. IsSoFar f a.checker seen) is h.so_far)

@@ -26,9 +26,10 @@ use Rattle.am_audit.proofs.Progresses.{open_below, stands_still, stands_behind, 
 
 -- ---- nothing is done
 
-pub takes_still : (p : Checker) (here : Progress) (step : Step) (reply : Reply) → effect step reply ≡ Nothing →
-    IsRightOf here.state step reply → IsAt p here → TakesEvent here step reply p
-takes_still p here step reply is right h = record {
+pub takes_still : (most_runs : ℕ) (p : Checker) (here : Progress) (step : Step) (reply : Reply) →
+    effect step reply ≡ Nothing →
+    IsRightOf most_runs here.state step reply → IsAt p here → TakesEvent most_runs here step reply p
+takes_still most_runs p here step reply is right h = record {
   right = record { said = right; next = subst (NextIn here.state) (sym is) tt };
   stands = stands_still p here step reply is h;
 }
@@ -42,8 +43,9 @@ begin_nothing _ h = refl
 abbrev MayBegin : State → ℕ → Type 0
 MayBegin s t = (t ≡ s.begun + 1) × (length s.active < 64) × (s.begun < 2 ^ 63)
 
-pub may_begin_with : (s : State) (reply : Reply) (t : ℕ) → reply ≡ Begun t → May s Begin reply → MayBegin s t
-may_begin_with s reply t is f = let P : Reply → Type 0 = λ r. May s Begin r in subst P is f
+pub may_begin_with : (most_runs : ℕ) (s : State) (reply : Reply) (t : ℕ) → reply ≡ Begun t →
+    May most_runs s Begin reply → MayBegin s t
+may_begin_with most_runs s reply t is f = let P : Reply → Type 0 = λ r. May most_runs s Begin r in subst P is f
 
 module _ (p : Checker) (here : Progress) (h : IsAt p here) (t : ℕ) (may : MayBegin here.state t) where
   abbrev s : State
@@ -59,29 +61,32 @@ module _ (p : Checker) (here : Progress) (h : IsAt p here) (t : ℕ) (may : MayB
       ∙ false_from_ne_true (is_open s.active t) (λ on. let low = open_below s.begun t s.active h.ordinary.below on in
       let new = may.0 in let no : ⊥ = omega arith in no)
 
-  pub takes_begin : (p' : Checker) (reply : Reply) → reply ≡ Begun t → p'.begun ≡ t → p'.commits ≡ p.commits →
+  pub takes_begin : (most_runs : ℕ) (p' : Checker) (reply : Reply) → reply ≡ Begun t → p'.begun ≡ t →
+      p'.commits ≡ p.commits →
       p'.runs ≡ p.runs → map listed p'.active.items ≡ map listed p.active.items ++ (t, []) ∷ [] →
-      p'.locks ≡ entered p.locks t → p'.committed ≡ p.committed → TakesEvent here Begin reply p'
-  takes_begin p' reply is b c r a l m =
-      let at : TakesEvent here Begin (Begun t) p' = record {
+      p'.locks ≡ entered p.locks t → p'.committed ≡ p.committed → TakesEvent most_runs here Begin reply p'
+  takes_begin most_runs p' reply is b c r a l m =
+      let at : TakesEvent most_runs here Begin (Begun t) p' = record {
         right = record { said = record { formed = may; busy = tt }; next = tt };
         stands = stands_behind p' here Begin (Begun t) (Begins t) refl
             (no_answer p' here _ (Begins t) (λ u. refl) (begins p p' here.bodies s h t may.0 b c r a l m));
       } in
-      subst (λ x. TakesEvent here Begin x p') (sym is) at
+      subst (λ x. TakesEvent most_runs here Begin x p') (sym is) at
 
 -- ---- Abort
 
-pub abort_nothing : (s : State) (t : ℕ) (reply : Reply) → is_open s.active t ≡ false → May s (Abort t) reply →
+pub abort_nothing : (most_runs : ℕ) (s : State) (t : ℕ) (reply : Reply) → is_open s.active t ≡ false →
+    May most_runs s (Abort t) reply →
     effect (Abort t) reply ≡ Nothing
-abort_nothing s t Aborted off f = absurd (both_ways (is_open s.active t) off f)
-abort_nothing s t _ off f = refl
+abort_nothing most_runs s t Aborted off f = absurd (both_ways (is_open s.active t) off f)
+abort_nothing most_runs s t _ off f = refl
 
-pub abort_aborts : (s : State) (t : ℕ) (reply : Reply) → is_open s.active t ≡ true → May s (Abort t) reply →
+pub abort_aborts : (most_runs : ℕ) (s : State) (t : ℕ) (reply : Reply) → is_open s.active t ≡ true →
+    May most_runs s (Abort t) reply →
     effect (Abort t) reply ≡ Aborts t
-abort_aborts s t Aborted on f = refl
-abort_aborts s t (Refused NoSuchTx) on f = absurd (both_ways (is_open s.active t) f on)
-abort_aborts s t _ on f = absurd f
+abort_aborts most_runs s t Aborted on f = refl
+abort_aborts most_runs s t (Refused NoSuchTx) on f = absurd (both_ways (is_open s.active t) f on)
+abort_aborts most_runs s t _ on f = absurd f
 
 -- whether the transaction is listed is whether it is active
 pub listed_is : (bodies : Bodies) (t : ℕ) (txs : List Transaction) → is_listed (map (list_of bodies) txs) t ≡ is_open
@@ -97,13 +102,14 @@ pub is_owned : (p : Checker) (here : Progress) → IsAt p here → (t : ℕ) →
     t
 is_owned p here h t = ap (λ (table : List OwnerLocks). is_owner table t) h.locks ∙ owners_are here.state.active t
 
-pub takes_abort : (p p' : Checker) (here : Progress) (t : ℕ) (reply : Reply) → IsAt p here →
-    is_open here.state.active t ≡ true → May here.state (Abort t) reply → p'.begun ≡ p.begun → p'.commits ≡ p.commits →
+pub takes_abort : (most_runs : ℕ) (p p' : Checker) (here : Progress) (t : ℕ) (reply : Reply) → IsAt p here →
+    is_open here.state.active t ≡ true → May most_runs here.state (Abort t) reply → p'.begun ≡ p.begun →
+    p'.commits ≡ p.commits →
     p'.runs ≡ p.runs → map listed p'.active.items ≡ filter (λ (x : Listed). not (x.0 == t))
     (map listed p.active.items) →
-    p'.locks ≡ released p.locks t → p'.committed ≡ p.committed → TakesEvent here (Abort t) reply p'
-takes_abort p p' here t reply h on may b c r a l m =
-    let is = abort_aborts here.state t reply on may in
+    p'.locks ≡ released p.locks t → p'.committed ≡ p.committed → TakesEvent most_runs here (Abort t) reply p'
+takes_abort most_runs p p' here t reply h on may b c r a l m =
+    let is = abort_aborts most_runs here.state t reply on may in
     record {
       right = record { said = record { formed = may; busy = tt }; next = subst (NextIn here.state) (sym is) tt };
       stands = stands_behind p' here (Abort t) reply (Aborts t) is

@@ -56,11 +56,14 @@ not_alone trace t m line w alone =
 
 -- ---- the first fault
 
-module _ (laws : (trace : Trace) → IsFormed trace → FormedLaws trace) where
-  against : (earlier : Trace) (event : Event) (later : Trace) (line : ℕ) (kind : FaultKind) → IsLegal earlier →
-      IsFault earlier event line kind → IsLegal (earlier ++ event ∷ later) → ⊥
-  against earlier event later line Form legal w whole = w.1.form (event_at FormedAt earlier event later whole.formed)
-  against earlier event later line Busy legal w whole = w.1.busy (event_at BusyRightAt earlier event later whole.busy)
+module _ (most_runs : ℕ) (laws : (trace : Trace) → IsFormed most_runs trace → FormedLaws most_runs trace) where
+  against : (earlier : Trace) (event : Event) (later : Trace) (line : ℕ) (kind : FaultKind) →
+      IsLegal most_runs earlier →
+      IsFault most_runs earlier event line kind → IsLegal most_runs (earlier ++ event ∷ later) → ⊥
+  against earlier event later line Form legal w whole =
+      w.1.form (event_at (FormedAt most_runs) earlier event later whole.formed)
+  against earlier event later line Busy legal w whole =
+      w.1.busy (event_at (BusyRightAt most_runs) earlier event later whole.busy)
   against earlier event later line Answer legal w whole =
       let serial = moment_after IsSerial earlier event later whole.serial in
       let next = ((laws earlier legal.formed).serial event.0 event.1 w.formed
@@ -68,9 +71,10 @@ module _ (laws : (trace : Trace) → IsFormed trace → FormedLaws trace) where
       not_alone earlier w.t (committed (effects earlier)) line w.answer
       (subst (IsNextInOrder (effects earlier)) w.commit next)
 
-  pub not_legal : (trace : Trace) (line : ℕ) (kind : FaultKind) → IsFirstFault trace line kind → IsLegal trace → ⊥
+  pub not_legal : (trace : Trace) (line : ℕ) (kind : FaultKind) → IsFirstFault most_runs trace line kind →
+      IsLegal most_runs trace → ⊥
   not_legal trace line kind f legal = against f.earlier f.event f.later line kind f.legal f.fault
-      (subst IsLegal f.split legal)
+      (subst (IsLegal most_runs) f.split legal)
 
 -- ---- there is one at most
 
@@ -97,11 +101,12 @@ same_transaction : (t u : ℕ) (e : Effect) → e ≡ Commits t → e ≡ Commit
 same_transaction t u e a b = let same : Commits t ≡ Commits u = sym a ∙ b in cc
 
 -- Busy isn't asked of a commit
-busy_of_commit : (es : List Effect) (step : Step) (reply : Reply) (t : ℕ) → effect step reply ≡ Commits t →
-    BusyRightAt es step reply
-busy_of_commit es (Do u op) (Refused why) t e = absurd (cc)
-busy_of_commit es (Do u op) reply t e = absurd (cc)
-busy_of_commit es step reply t e = tt
+busy_of_commit : (most_runs : ℕ) (es : List Effect) (step : Step) (reply : Reply) (t : ℕ) →
+    effect step reply ≡ Commits t →
+    BusyRightAt most_runs es step reply
+busy_of_commit most_runs es (Do u op) (Refused why) t e = absurd (cc)
+busy_of_commit most_runs es (Do u op) reply t e = absurd (cc)
+busy_of_commit most_runs es step reply t e = tt
 
 one_wrong_answer : (trace : Trace) (t : ℕ) (m : PlainMap) (l k : ℕ) → IsFirstWrongAnswer trace t m l →
     IsFirstWrongAnswer trace t m k → l ≡ k
@@ -133,32 +138,38 @@ one_wrong_answer trace t m l k w v = at (parted w.earlier (Do t w.op, w.reply) w
       wrong = v.wrong;
     }) w.first)
 
-one_fault : (trace : Trace) (e : Event) (l k : ℕ) (a b : FaultKind) → IsFault trace e l a → IsFault trace e k b →
+one_fault : (most_runs : ℕ) (trace : Trace) (e : Event) (l k : ℕ) (a b : FaultKind) → IsFault most_runs trace e l a →
+    IsFault most_runs trace e k b →
     (l ≡ k) × (a ≡ b)
-one_fault trace e l k Form Form w v = (w.0 ∙ sym v.0, refl)
-one_fault trace e l k Busy Busy w v = (w.0 ∙ sym v.0, refl)
-one_fault trace e l k Answer Answer w v =
+one_fault most_runs trace e l k Form Form w v = (w.0 ∙ sym v.0, refl)
+one_fault most_runs trace e l k Busy Busy w v = (w.0 ∙ sym v.0, refl)
+one_fault most_runs trace e l k Answer Answer w v =
     let same = same_transaction v.t w.t (effect e.0 e.1) v.commit w.commit in (
       one_wrong_answer trace w.t (committed (effects trace)) l k w.answer
           (subst (λ t. IsFirstWrongAnswer trace t (committed (effects trace)) k) same v.answer),
       refl,
     )
-one_fault trace e l k Form Busy w v = absurd (v.1.busy (w.1.first v.1.first))
-one_fault trace e l k Busy Form w v = absurd (w.1.busy (v.1.first w.1.first))
-one_fault trace e l k Form Answer w v = absurd (w.1.form v.formed)
-one_fault trace e l k Answer Form w v = absurd (v.1.form w.formed)
-one_fault trace e l k Busy Answer w v = absurd (w.1.busy (busy_of_commit (effects trace) e.0 e.1 v.t v.commit))
-one_fault trace e l k Answer Busy w v = absurd (v.1.busy (busy_of_commit (effects trace) e.0 e.1 w.t w.commit))
+one_fault most_runs trace e l k Form Busy w v = absurd (v.1.busy (w.1.first v.1.first))
+one_fault most_runs trace e l k Busy Form w v = absurd (w.1.busy (v.1.first w.1.first))
+one_fault most_runs trace e l k Form Answer w v = absurd (w.1.form v.formed)
+one_fault most_runs trace e l k Answer Form w v = absurd (v.1.form w.formed)
+one_fault most_runs trace e l k Busy Answer w v =
+    absurd (w.1.busy (busy_of_commit most_runs (effects trace) e.0 e.1 v.t v.commit))
+one_fault most_runs trace e l k Answer Busy w v =
+    absurd (v.1.busy (busy_of_commit most_runs (effects trace) e.0 e.1 w.t w.commit))
 
-pub one_first_fault : ((trace : Trace) → IsFormed trace → FormedLaws trace) →
-    (trace : Trace) (l k : ℕ) (a b : FaultKind) → IsFirstFault trace l a → IsFirstFault trace k b → (l ≡ k) × (a ≡ b)
-one_first_fault laws trace l k a b f g = at (parted f.earlier f.event f.later g.earlier g.event g.later
+pub one_first_fault : (most_runs : ℕ) → ((trace : Trace) → IsFormed most_runs trace → FormedLaws most_runs trace) →
+    (trace : Trace) (l k : ℕ) (a b : FaultKind) → IsFirstFault most_runs trace l a → IsFirstFault most_runs trace k b →
+    (l ≡ k) × (a ≡ b)
+one_first_fault most_runs laws trace l k a b f g = at (parted f.earlier f.event f.later g.earlier g.event g.later
     (sym f.split ∙ g.split))
   where
     at : Parted f.earlier f.event g.earlier g.event → (l ≡ k) × (a ≡ b)
-    at (Same same here) = one_fault g.earlier g.event l k a b
-        (subst (λ (x : Trace). IsFault x g.event l a) same
-        (subst (λ (e : Event). IsFault f.earlier e l a) here f.fault))
+    at (Same same here) = one_fault most_runs g.earlier g.event l k a b
+        (subst (λ (x : Trace). IsFault most_runs x g.event l a) same
+        (subst (λ (e : Event). IsFault most_runs f.earlier e l a) here f.fault))
         g.fault
-    at (Before rest is) = absurd (against laws f.earlier f.event rest l a f.legal f.fault (subst IsLegal is g.legal))
-    at (After rest is) = absurd (against laws g.earlier g.event rest k b g.legal g.fault (subst IsLegal is f.legal))
+    at (Before rest is) = absurd (against most_runs laws f.earlier f.event rest l a f.legal f.fault
+        (subst (IsLegal most_runs) is g.legal))
+    at (After rest is) = absurd (against most_runs laws g.earlier g.event rest k b g.legal g.fault
+        (subst (IsLegal most_runs) is f.legal))

@@ -22,31 +22,34 @@ use Rattle.am_audit.proofs.Moments.{one_more_event, one_more_moment, last_moment
 
 -- ---- the same words
 
-to_formed : (es : List Effect) (step : Step) (reply : Reply) → FormedIn (state_at es) step reply →
-    FormedAt es step reply
-to_formed es (Do t op) reply h = h
-to_formed es step reply h = h
+to_formed : (most_runs : ℕ) (es : List Effect) (step : Step) (reply : Reply) → FormedIn most_runs (state_at es) step
+    reply →
+    FormedAt most_runs es step reply
+to_formed most_runs es (Do t op) reply h = h
+to_formed most_runs es step reply h = h
 
-from_formed : (es : List Effect) (step : Step) (reply : Reply) → FormedAt es step reply →
-    FormedIn (state_at es) step reply
-from_formed es (Do t op) reply h = h
-from_formed es step reply h = h
+from_formed : (most_runs : ℕ) (es : List Effect) (step : Step) (reply : Reply) → FormedAt most_runs es step reply →
+    FormedIn most_runs (state_at es) step reply
+from_formed most_runs es (Do t op) reply h = h
+from_formed most_runs es step reply h = h
 
-to_early : (es : List Effect) (step : Step) (reply : Reply) → EarlyIn (state_at es) step reply →
-    EarlyRightAt es step reply
-to_early es (Do t op) reply h = h
-to_early es _ reply h = tt
+to_early : (most_runs : ℕ) (es : List Effect) (step : Step) (reply : Reply) → EarlyIn most_runs (state_at es) step
+    reply →
+    EarlyRightAt most_runs es step reply
+to_early most_runs es (Do t op) reply h = h
+to_early most_runs es _ reply h = tt
 
-from_early : (es : List Effect) (step : Step) (reply : Reply) → EarlyRightAt es step reply →
-    EarlyIn (state_at es) step reply
-from_early es (Do t op) reply h = h
-from_early es _ reply h = tt
+from_early : (most_runs : ℕ) (es : List Effect) (step : Step) (reply : Reply) → EarlyRightAt most_runs es step reply →
+    EarlyIn most_runs (state_at es) step reply
+from_early most_runs es (Do t op) reply h = h
+from_early most_runs es _ reply h = tt
 
-module _ (trace : Trace) (laws : FormedLaws trace) where
+module _ (most_runs : ℕ) (trace : Trace) (laws : FormedLaws most_runs trace) where
   abbrev es : List Effect
   es = effects trace
 
-  to_busy : (step : Step) (reply : Reply) → BusyIn (state_at es) step reply → BusyRightAt es step reply
+  to_busy : (step : Step) (reply : Reply) → BusyIn most_runs (state_at es) step reply →
+      BusyRightAt most_runs es step reply
   to_busy (Do t op) reply b = λ h. (
     λ e. let both = (b h).0 e in (both.0, (laws.least t op h).1 both.1),
     λ both. (b h).1 (both.0, (laws.least t op h).0 both.1),
@@ -54,7 +57,8 @@ module _ (trace : Trace) (laws : FormedLaws trace) where
   to_busy Begin reply b = tt
   to_busy step reply b = tt
 
-  from_busy : (step : Step) (reply : Reply) → BusyRightAt es step reply → BusyIn (state_at es) step reply
+  from_busy : (step : Step) (reply : Reply) → BusyRightAt most_runs es step reply → BusyIn most_runs (state_at es) step
+      reply
   from_busy (Do t op) reply b = λ h. (
     λ e. let both = (b h).0 e in (both.0, (laws.least t op h).0 both.1),
     λ both. (b h).1 (both.0, (laws.least t op h).1 both.1),
@@ -63,17 +67,18 @@ module _ (trace : Trace) (laws : FormedLaws trace) where
   from_busy step reply b = tt
 
 -- a formed commit is one of an active transaction
-pub commit_open : (s : State) (step : Step) (reply : Reply) (t : ℕ) → effect step reply ≡ Commits t →
-    FormedIn s step reply → is_open s.active t ≡ true
-commit_open s (Commit u) (Committed c) t e f = let same : u ≡ t = cc in ap (is_open s.active) (sym same) ∙ f.0
-commit_open s (Do u op) (Refused why) t e f = absurd (cc)
-commit_open s (Do u op) reply t e f = absurd (cc)
-commit_open s Begin (Begun u) t e f = absurd (cc)
-commit_open s (Abort u) Aborted t e f = absurd (cc)
-commit_open s _ _ t e f = absurd (cc)
+pub commit_open : (most_runs : ℕ) (s : State) (step : Step) (reply : Reply) (t : ℕ) → effect step reply ≡ Commits t →
+    FormedIn most_runs s step reply → is_open s.active t ≡ true
+commit_open most_runs s (Commit u) (Committed c) t e f = let same : u ≡ t = cc in ap (is_open s.active) (sym same) ∙ f.0
+commit_open most_runs s (Do u op) (Refused why) t e f = absurd (cc)
+commit_open most_runs s (Do u op) reply t e f = absurd (cc)
+commit_open most_runs s Begin (Begun u) t e f = absurd (cc)
+commit_open most_runs s (Abort u) Aborted t e f = absurd (cc)
+commit_open most_runs s _ _ t e f = absurd (cc)
 
-module _ (laws : (trace : Trace) → IsFormed trace → FormedLaws trace) (seen : Trace) (legal : IsLegal seen) where
-  abbrev here : FormedLaws seen
+module _ (most_runs : ℕ) (laws : (trace : Trace) → IsFormed most_runs trace → FormedLaws most_runs trace)
+    (seen : Trace) (legal : IsLegal most_runs seen) where
+  abbrev here : FormedLaws most_runs seen
   here = laws seen legal.formed
 
   abbrev s : State
@@ -82,23 +87,35 @@ module _ (laws : (trace : Trace) → IsFormed trace → FormedLaws trace) (seen 
   state : state_at (effects seen) ≡ s
   state = here.state
 
-  formed_here : (step : Step) (reply : Reply) → FormedIn s step reply → FormedAt (effects seen) step reply
-  formed_here step reply f = to_formed (effects seen) step reply (subst (λ x. FormedIn x step reply) (sym state) f)
+  formed_here : (step : Step) (reply : Reply) → FormedIn most_runs s step reply → FormedAt most_runs (effects seen) step
+      reply
+  formed_here step reply f = to_formed most_runs (effects seen) step reply
+      (subst (λ x. FormedIn most_runs x step reply) (sym state) f)
 
-  formed_there : (step : Step) (reply : Reply) → FormedAt (effects seen) step reply → FormedIn s step reply
-  formed_there step reply f = subst (λ x. FormedIn x step reply) state (from_formed (effects seen) step reply f)
+  formed_there : (step : Step) (reply : Reply) → FormedAt most_runs (effects seen) step reply →
+      FormedIn most_runs s step reply
+  formed_there step reply f = subst (λ x. FormedIn most_runs x step reply) state
+      (from_formed most_runs (effects seen) step reply f)
 
-  busy_here : (step : Step) (reply : Reply) → BusyIn s step reply → BusyRightAt (effects seen) step reply
-  busy_here step reply b = to_busy seen here step reply (subst (λ x. BusyIn x step reply) (sym state) b)
+  busy_here : (step : Step) (reply : Reply) → BusyIn most_runs s step reply → BusyRightAt most_runs (effects seen) step
+      reply
+  busy_here step reply b = to_busy most_runs seen here step reply
+      (subst (λ x. BusyIn most_runs x step reply) (sym state) b)
 
-  busy_there : (step : Step) (reply : Reply) → BusyRightAt (effects seen) step reply → BusyIn s step reply
-  busy_there step reply b = subst (λ x. BusyIn x step reply) state (from_busy seen here step reply b)
+  busy_there : (step : Step) (reply : Reply) → BusyRightAt most_runs (effects seen) step reply →
+      BusyIn most_runs s step reply
+  busy_there step reply b = subst (λ x. BusyIn most_runs x step reply) state
+      (from_busy most_runs seen here step reply b)
 
-  early_here : (step : Step) (reply : Reply) → EarlyIn s step reply → EarlyRightAt (effects seen) step reply
-  early_here step reply e = to_early (effects seen) step reply (subst (λ x. EarlyIn x step reply) (sym state) e)
+  early_here : (step : Step) (reply : Reply) → EarlyIn most_runs s step reply → EarlyRightAt most_runs (effects seen)
+      step reply
+  early_here step reply e = to_early most_runs (effects seen) step reply
+      (subst (λ x. EarlyIn most_runs x step reply) (sym state) e)
 
-  early_there : (step : Step) (reply : Reply) → EarlyRightAt (effects seen) step reply → EarlyIn s step reply
-  early_there step reply e = subst (λ x. EarlyIn x step reply) state (from_early (effects seen) step reply e)
+  early_there : (step : Step) (reply : Reply) → EarlyRightAt most_runs (effects seen) step reply →
+      EarlyIn most_runs s step reply
+  early_there step reply e = subst (λ x. EarlyIn most_runs x step reply) state
+      (from_early most_runs (effects seen) step reply e)
 
   next_here : (e : Effect) → ((t : ℕ) → e ≡ Commits t → is_open (state_at (effects seen)).active t ≡ true) →
       NextIn (state_at (effects seen)) e → IsNextInOrder (effects seen) e
@@ -113,34 +130,37 @@ module _ (laws : (trace : Trace) → IsFormed trace → FormedLaws trace) (seen 
   serial_now = last_moment IsSerial seen legal.serial
 
   -- a right event leaves the trace legal
-  pub goes_on : (step : Step) (reply : Reply) → IsRightIn s step reply → IsLegal (seen ++ (step, reply) ∷ [])
+  pub goes_on : (step : Step) (reply : Reply) → IsRightIn most_runs s step reply →
+      IsLegal most_runs (seen ++ (step, reply) ∷ [])
   goes_on step reply right =
       let formed = formed_here step reply right.said.formed in
       record {
-        formed = one_more_event FormedAt seen step reply legal.formed formed;
-        busy = one_more_event BusyRightAt seen step reply legal.busy (busy_here step reply right.said.busy);
+        formed = one_more_event (FormedAt most_runs) seen step reply legal.formed formed;
+        busy = one_more_event (BusyRightAt most_runs) seen step reply legal.busy (busy_here step reply right.said.busy);
         serial = one_more_moment IsSerial seen step reply legal.serial
             ((here.serial step reply formed serial_now).1
-            (next_here (effect step reply) (λ t e. commit_open (state_at (effects seen)) step reply t e
-            (from_formed (effects seen) step reply formed))
+            (next_here (effect step reply) (λ t e. commit_open most_runs (state_at (effects seen)) step reply t e
+            (from_formed most_runs (effects seen) step reply formed))
             (subst (λ x. NextIn x (effect step reply)) (sym state) right.next)));
       }
 
-  misformed_here : (step : Step) (reply : Reply) → IsMisformedIn s step reply → IsMisformed (effects seen) step reply
+  misformed_here : (step : Step) (reply : Reply) → IsMisformedIn most_runs s step reply →
+      IsMisformed most_runs (effects seen) step reply
   misformed_here step reply w = record {
     form = λ f. w.form (formed_there step reply f);
     first = λ e. busy_here step reply (w.first (early_there step reply e));
   }
 
-  wrongly_busy_here : (step : Step) (reply : Reply) → IsWronglyBusyIn s step reply →
-      IsWronglyBusy (effects seen) step reply
+  wrongly_busy_here : (step : Step) (reply : Reply) → IsWronglyBusyIn most_runs s step reply →
+      IsWronglyBusy most_runs (effects seen) step reply
   wrongly_busy_here step reply w = record {
     busy = λ b. w.busy (busy_there step reply b);
     first = early_here step reply w.first;
   }
 
-  commits_wrongly_here : (step : Step) (reply : Reply) (position : ℕ) → CommitsWronglyIn (progress_of seen) step reply
-      position → CommitsWrongly seen step reply (position + 2)
+  commits_wrongly_here : (step : Step) (reply : Reply) (position : ℕ) → CommitsWronglyIn most_runs (progress_of seen)
+      step reply
+      position → CommitsWrongly most_runs seen step reply (position + 2)
   commits_wrongly_here step reply position w = record {
     t = w.t;
     formed = formed_here step reply w.formed;
@@ -153,8 +173,9 @@ module _ (laws : (trace : Trace) → IsFormed trace → FormedLaws trace) (seen 
 
   -- a fault of the event that comes next is the first fault
   pub is_first : (trace : Trace) (step : Step) (reply : Reply) (later : Trace) → trace ≡ seen ++ (step, reply) ∷ later →
-      (position : ℕ) → position ≡ length seen → (event_fault : EventFault) → IsEventFault (progress_of seen) step reply
-      event_fault → IsTrueFault trace (fault_of position event_fault)
+      (position : ℕ) → position ≡ length seen → (event_fault : EventFault) → IsEventFault most_runs (progress_of seen)
+      step reply
+      event_fault → IsTrueFault most_runs trace (fault_of position event_fault)
   is_first trace step reply later is position at Form w = record {
     earlier = seen;
     event = (step, reply);

@@ -126,14 +126,15 @@ module _ (p : Checker) (b : Bodies) (s : State) (h : IsAtState p b s) where
   here n = record { bodies = b; state = s; count = n }
 
   -- what begins is new
-  begins_new : (step : Step) (reply : Reply) (t : ℕ) → effect step reply ≡ Begins t → FormedIn s step reply →
+  begins_new : (most_runs : ℕ) (step : Step) (reply : Reply) (t : ℕ) → effect step reply ≡ Begins t →
+      FormedIn most_runs s step reply →
       t ≡ s.begun + 1
-  begins_new Begin (Begun u) t e f = let same : u ≡ t = cc in sym same ∙ f.0
-  begins_new (Do u op) (Refused why) t e f = absurd (cc)
-  begins_new (Do u op) reply t e f = absurd (cc)
-  begins_new (Commit u) (Committed c) t e f = absurd (cc)
-  begins_new (Abort u) Aborted t e f = absurd (cc)
-  begins_new _ _ t e f = absurd (cc)
+  begins_new most_runs Begin (Begun u) t e f = let same : u ≡ t = cc in sym same ∙ f.0
+  begins_new most_runs (Do u op) (Refused why) t e f = absurd (cc)
+  begins_new most_runs (Do u op) reply t e f = absurd (cc)
+  begins_new most_runs (Commit u) (Committed c) t e f = absurd (cc)
+  begins_new most_runs (Abort u) Aborted t e f = absurd (cc)
+  begins_new most_runs _ _ t e f = absurd (cc)
 
   agree_next : (e : Effect) → ((t : ℕ) → e ≡ Begins t → t ≡ s.begun + 1) → AgreeOn (next s e).active (own_bodies p) b
   agree_next (Begins t) new =
@@ -155,13 +156,14 @@ module _ (p : Checker) (b : Bodies) (s : State) (h : IsAtState p b s) where
   no_less (Begins t) = omega arith
   no_less _ = omega arith
 
-  pub takes_there : (n : ℕ) (step : Step) (reply : Reply) (p' : Checker) → TakesEvent (own_moment p n) step reply p' →
-      TakesEvent (here n) step reply p'
-  takes_there n step reply p' k =
+  pub takes_there : (most_runs n : ℕ) (step : Step) (reply : Reply) (p' : Checker) →
+      TakesEvent most_runs (own_moment p n) step reply p' →
+      TakesEvent most_runs (here n) step reply p'
+  takes_there most_runs n step reply p' k =
       let is = state_is p b s h in
       let stands = subst (λ x. IsAtState p' (with_added (own_bodies p) n (effect step reply))
       (next x (effect step reply))) is k.stands in
-      let right = subst (λ x. IsRightIn x step reply) is k.right in
+      let right = subst (λ x. IsRightIn most_runs x step reply) is k.right in
       record {
         right = right;
         stands = rebodied p' (with_added (own_bodies p) n (effect step reply)) (with_added b n (effect step reply))
@@ -170,7 +172,7 @@ module _ (p : Checker) (b : Bodies) (s : State) (h : IsAtState p b s) where
             (λ (x : Transaction). with_added (own_bodies p) n (effect step reply) x.0 ≡ with_added b n
             (effect step reply) x.0) (λ x e. ap (λ l. l ++ added n x.0 (effect step reply)) e)
             (next s (effect step reply)).active
-            (agree_next (effect step reply) (λ t e. begins_new step reply t e right.said.formed)))
+            (agree_next (effect step reply) (λ t e. begins_new most_runs step reply t e right.said.formed)))
             (λ t above.
             let low = no_less (effect step reply) in
             let above' : s.begun < t = omega arith in
@@ -179,19 +181,20 @@ module _ (p : Checker) (b : Bodies) (s : State) (h : IsAtState p b s) where
             stands;
       }
 
-  pub flaw_there : (n : ℕ) (step : Step) (reply : Reply) (event_fault : EventFault) →
-      IsEventFault (own_moment p n) step reply event_fault → IsEventFault (here n) step reply event_fault
-  flaw_there n step reply Form w = subst (λ x. IsMisformedIn x step reply) (state_is p b s h) w
-  flaw_there n step reply Busy w = subst (λ x. IsWronglyBusyIn x step reply) (state_is p b s h) w
-  flaw_there n step reply (Answer position) w =
+  pub flaw_there : (most_runs n : ℕ) (step : Step) (reply : Reply) (event_fault : EventFault) →
+      IsEventFault most_runs (own_moment p n) step reply event_fault → IsEventFault most_runs (here n) step reply
+      event_fault
+  flaw_there most_runs n step reply Form w = subst (λ x. IsMisformedIn most_runs x step reply) (state_is p b s h) w
+  flaw_there most_runs n step reply Busy w = subst (λ x. IsWronglyBusyIn most_runs x step reply) (state_is p b s h) w
+  flaw_there most_runs n step reply (Answer position) w =
       let is = state_is p b s h in
-      let formed = subst (λ x. FormedIn x step reply) is w.formed in
+      let formed = subst (λ x. FormedIn most_runs x step reply) is w.formed in
       record {
         t = w.t;
         formed = formed;
         commit = w.commit;
         answer = subst (λ (own : List PlacedAnswer). IsFirstWrong own (fresh s.committed) position)
-            (own_here w.t (commit_open s step reply w.t w.commit formed))
+            (own_here w.t (commit_open most_runs s step reply w.t w.commit formed))
             (subst (λ (x : State). IsFirstWrong (own_bodies p w.t) (fresh x.committed) position) is w.answer);
       }
-  flaw_there n step reply NoMemory w = tt
+  flaw_there most_runs n step reply NoMemory w = tt

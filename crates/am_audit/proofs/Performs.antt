@@ -1,20 +1,23 @@
 -- Operations and commits that the audit takes.
-use Rattle.std.proofs.Common.{◌≡◌, ℕ, ◌+◌, List, map, Bool, true, false, cond, refl, sym, ap, ◌∙◌}
-use Rattle.std.proofs.Common.{subst, Option, Some, None}
-use Rattle.std.specs.Prelude.{◌==◌, not, filter}
-use Rattle.std.proofs.lemmas.Bool.{both_ways, false≢true, not-false}
-use Rattle.am_record.specs.Plain.{Draft, fresh, answers_on, left_on}
+use Rattle.std.proofs.Common.{◌≡◌, ℕ, ◌+◌, ◌<◌, List, length, map, Bool, true, false, cond, refl, sym, ap, ◌∙◌}
+use Rattle.std.proofs.Common.{arith, subst, Option, Some, None}
+use Rattle.std.specs.Prelude.{◌==◌, ◌&&◌, ◌||◌, nat_le, not, filter}
+use Rattle.std.proofs.lemmas.Bool.{both_ways, false≢true, leb-false, not-false}
+use Rattle.am_record.specs.Limits.{max_ops, max_runs}
+use Rattle.am_record.specs.Refusals.{is_load, is_bounded}
+use Rattle.am_record.specs.Plain.{Draft, fresh, answers_on, is_orderly, left_on}
 use Rattle.am_record.specs.Asks.{lock_of, with_asked}
 use Rattle.am_record.specs.declared.lock.Lock.{Lock}
-use Rattle.am_record.specs.declared.step.Refusal.TheVariants.{NoSuchTx}
+use Rattle.am_record.specs.declared.step.Refusal.TheVariants.{NoSuchTx, NotRising, BadLimit, TooManyOps, TooManyRuns}
 use Rattle.am_record.specs.declared.step.Op.{Op}
+use Rattle.am_record.specs.declared.step.Op.TheVariants.{Load}
 use Rattle.am_record.specs.declared.step.Step.TheVariants.{Do, Commit}
 use Rattle.am_record.specs.declared.step.Reply.{Reply}
-use Rattle.am_record.specs.declared.step.Reply.TheVariants.{Committed, Refused}
+use Rattle.am_record.specs.declared.step.Reply.TheVariants.{Committed, Done, Refused}
 use Rattle.am_locks.specs.Table.{is_owner, with_locks, without_owner as released}
 use Rattle.am_serial.specs.Trace.{Answered, Answers, Commits, Nothing, effect, runs_made, ops_of, replies_of}
 use Rattle.am_serial.specs.Trace.{IsAnsweredAlone}
-use Rattle.am_serial.specs.Machine.{State, is_open, body_in, locks_in, view, due_early, May}
+use Rattle.am_serial.specs.Machine.{State, is_open, body_in, locks_in, view, is_full, due_early, May}
 use Rattle.am_replies.specs.declared.event_fault.EventFault.{EventFault}
 use Rattle.am_replies.specs.declared.event_fault.EventFault.TheVariants.{Form, Busy, Answer, NoMemory}
 use Rattle.am_replies.specs.declared.active.Active.{Active}
@@ -30,12 +33,41 @@ use Rattle.am_audit.proofs.Bodies.{body_placed, own_placed, listed_open}
 
 -- ---- operations
 
+or_left_false : (a b : Bool) → (a || b) ≡ false → a ≡ false
+or_left_false true b h = absurd (cc)
+or_left_false false b h = refl
+
 none_of_first : {A : Type 0} (b : Bool) (x : A) (o : Option A) → cond b (Some x) o ≡ None → b ≡ false
 none_of_first true x o h = absurd (cc)
 none_of_first false x o h = refl
 
-pub open_of_none : (s : State) (t : ℕ) (op : Op) → due_early s t op ≡ None → is_open s.active t ≡ true
-open_of_none s t op none = not-false (is_open s.active t) (none_of_first (not (is_open s.active t)) NoSuchTx _ none)
+rest_of_none : {A : Type 0} (b : Bool) (x : A) (o : Option A) → cond b (Some x) o ≡ None → o ≡ None
+rest_of_none true x o h = absurd (cc)
+rest_of_none false x o h = h
+
+-- a load to which no early refusal is due finds room for a run
+not_full : (full : Bool) (s : State) (t : ℕ) (op : Op) → due_early full s t op ≡ None → (is_load op && full) ≡ false
+not_full full s t op none =
+    none_of_first (is_load op && full) TooManyRuns None
+    (rest_of_none (not (is_bounded op)) BadLimit _
+    (rest_of_none (not (is_orderly op)) NotRising _
+    (rest_of_none (nat_le max_ops (length (body_in s.active t))) TooManyOps _
+    (rest_of_none (not (is_open s.active t)) NoSuchTx _ none))))
+
+-- the runs that are counted behind it are as many as may be at most
+pub made_fits : (most_runs runs bound : ℕ) (s : State) (t : ℕ) (op : Op) (reply : Reply) →
+    due_early (is_full most_runs runs reply) s t op ≡ None → most_runs < bound → runs < bound →
+    runs + runs_made op reply < bound
+made_fits most_runs runs bound s t (Load pairs) Done none most few =
+    let less = leb-false most_runs runs (or_left_false (nat_le most_runs runs)
+    (nat_le max_runs runs && false) (not_full (is_full most_runs runs Done) s t (Load pairs) none)) in
+    omega (arith, less, most)
+made_fits most_runs runs bound s t _ _ none most few = omega (arith, few)
+
+pub open_of_none : (full : Bool) (s : State) (t : ℕ) (op : Op) → due_early full s t op ≡ None →
+    is_open s.active t ≡ true
+open_of_none full s t op none = not-false (is_open s.active t)
+    (none_of_first (not (is_open s.active t)) NoSuchTx _ none)
 
 pub refusal_nothing : (t : ℕ) (op : Op) (reply : Reply) → refused_of reply ≡ true → effect (Do t op) reply ≡ Nothing
 refusal_nothing t op (Refused why) h = refl
@@ -60,33 +92,33 @@ restored p p' here h b c r a l m = record {
   ordinary = h.ordinary;
 }
 
-pub takes_refused : (p p' : Checker) (here : Progress) (t : ℕ) (op : Op) (reply : Reply) → IsAt p here →
-    refused_of reply ≡ true → IsRightOf here.state (Do t op) reply →
+pub takes_refused : (most_runs : ℕ) (p p' : Checker) (here : Progress) (t : ℕ) (op : Op) (reply : Reply) → IsAt p here →
+    refused_of reply ≡ true → IsRightOf most_runs here.state (Do t op) reply →
     p'.begun ≡ p.begun → p'.commits ≡ p.commits → p'.runs ≡ p.runs → map listed p'.active.items ≡ map listed
-    p.active.items → p'.locks ≡ p.locks → p'.committed ≡ p.committed → TakesEvent here (Do t op) reply p'
-takes_refused p p' here t op reply h refused right b c r a l m = takes_still p' here (Do t op) reply
+    p.active.items → p'.locks ≡ p.locks → p'.committed ≡ p.committed → TakesEvent most_runs here (Do t op) reply p'
+takes_refused most_runs p p' here t op reply h refused right b c r a l m = takes_still most_runs p' here (Do t op) reply
     (refusal_nothing t op reply refused) right (restored p p' here h b c r a l m)
 
-module _ (p : Checker) (here : Progress) (h : IsAt p here) (t : ℕ) (op : Op) (none : due_early here.state t op ≡ None)
-  where
-    abbrev s : State
-    s = here.state
+module _ (full : Bool) (p : Checker) (here : Progress) (h : IsAt p here) (t : ℕ) (op : Op)
+    (none : due_early full here.state t op ≡ None) where
+  abbrev s : State
+  s = here.state
 
-    pub takes_answer : (p' : Checker) (reply : Reply) (n : ℕ) (asked : Option Lock) → n ≡ here.count →
-        asked ≡ lock_of op → refused_of reply ≡ false → IsRightOf s (Do t op) reply → p'.begun ≡ p.begun →
-        p'.commits ≡ p.commits → p'.runs ≡ p.runs + runs_made op reply → map listed p'.active.items ≡ with_own t
-        (n, (op, reply)) (map listed p.active.items) →
-        p'.locks ≡ with_locks p.locks t (with_asked (locks_in s.active t) asked) → p'.committed ≡ p.committed →
-        TakesEvent here (Do t op) reply p'
-    takes_answer p' reply n asked position lock answered right b c r a l m =
-        let is = answer_effect t op reply answered in
-        record {
-          right = record { said = right; next = subst (NextIn s) (sym is) tt };
-          stands = stands_behind p' here (Do t op) reply (Answers t op reply) is
-              (answers p p' here.bodies s h here.count t op reply (open_of_none s t op none) b c r
-              (a ∙ ap (λ k. with_own t (k, (op, reply)) (map listed p.active.items)) position)
-              (l ∙ ap (λ o. with_locks p.locks t (with_asked (locks_in s.active t) o)) lock) m);
-        }
+  pub takes_answer : (most_runs : ℕ) (p' : Checker) (reply : Reply) (n : ℕ) (asked : Option Lock) → n ≡ here.count →
+      asked ≡ lock_of op → refused_of reply ≡ false → IsRightOf most_runs s (Do t op) reply → p'.begun ≡ p.begun →
+      p'.commits ≡ p.commits → p'.runs ≡ p.runs + runs_made op reply → map listed p'.active.items ≡ with_own t
+      (n, (op, reply)) (map listed p.active.items) →
+      p'.locks ≡ with_locks p.locks t (with_asked (locks_in s.active t) asked) → p'.committed ≡ p.committed →
+      TakesEvent most_runs here (Do t op) reply p'
+  takes_answer most_runs p' reply n asked position lock answered right b c r a l m =
+      let is = answer_effect t op reply answered in
+      record {
+        right = record { said = right; next = subst (NextIn s) (sym is) tt };
+        stands = stands_behind p' here (Do t op) reply (Answers t op reply) is
+            (answers p p' here.bodies s h here.count t op reply (open_of_none full s t op none) b c r
+            (a ∙ ap (λ k. with_own t (k, (op, reply)) (map listed p.active.items)) position)
+            (l ∙ ap (λ o. with_locks p.locks t (with_asked (locks_in s.active t) o)) lock) m);
+      }
 
 -- ---- commits
 
@@ -97,17 +129,19 @@ commit_nothing t _ h = refl
 abbrev MayCommit : State → ℕ → ℕ → Type 0
 MayCommit s t n = (is_open s.active t ≡ true) × (n ≡ s.commits + 1)
 
-pub may_commit_with : (s : State) (t : ℕ) (reply : Reply) (n : ℕ) → reply ≡ Committed n → May s (Commit t) reply →
+pub may_commit_with : (most_runs : ℕ) (s : State) (t : ℕ) (reply : Reply) (n : ℕ) → reply ≡ Committed n →
+    May most_runs s (Commit t) reply →
     MayCommit s t n
-may_commit_with s t reply n is f = let P : Reply → Type 0 = λ r. May s (Commit t) r in subst P is f
+may_commit_with most_runs s t reply n is f = let P : Reply → Type 0 = λ r. May most_runs s (Commit t) r in subst P is f
 
-module _ (p : Checker) (here : Progress) (h : IsAt p here) (t : ℕ) (reply : Reply) (n : ℕ) (is : reply ≡ Committed n)
-    (formed : May here.state (Commit t) reply) where
+module _ (most_runs : ℕ) (p : Checker) (here : Progress) (h : IsAt p here) (t : ℕ) (reply : Reply) (n : ℕ)
+    (is : reply ≡ Committed n)
+    (formed : May most_runs here.state (Commit t) reply) where
   abbrev s1 : State
   s1 = here.state
 
   pub on : is_open s1.active t ≡ true
-  on = (may_commit_with s1 t reply n is formed).0
+  on = (may_commit_with most_runs s1 t reply n is formed).0
 
   pub owner_ends : is_owner p.locks t ≡ true
   owner_ends = is_owned p here h t ∙ on
@@ -125,7 +159,7 @@ module _ (p : Checker) (here : Progress) (h : IsAt p here) (t : ℕ) (reply : Re
 
     -- the first wrong answer is a fault of the commit
     pub replay_flaw : (event_fault : EventFault) → IsReplayFault own p.committed event_fault →
-        IsEventFault here (Commit t) reply event_fault
+        IsEventFault most_runs here (Commit t) reply event_fault
     replay_flaw (Answer position) w = record {
       t = t;
       formed = formed;
@@ -141,7 +175,7 @@ module _ (p : Checker) (here : Progress) (h : IsAt p here) (t : ℕ) (reply : Re
         left ≡ left_by_all own p.committed →
         p'.begun ≡ p.begun → p'.commits ≡ n → p'.runs ≡ p.runs → map listed p'.active.items ≡ filter
         (λ (x : Listed). not (x.0 == t)) (map listed p.active.items) → p'.locks ≡ released p.locks t →
-        p'.committed ≡ fresh left.map → TakesEvent here (Commit t) reply p'
+        p'.committed ≡ fresh left.map → TakesEvent most_runs here (Commit t) reply p'
     takes_commit p' left alone is_left b c r a l m =
         let body = body_placed p here h all same t on in
         let alone' : IsAnsweredAlone (body_in s1.active t) s1.committed =
@@ -159,6 +193,6 @@ module _ (p : Checker) (here : Progress) (h : IsAt p here) (t : ℕ) (reply : Re
           };
           stands = stands_behind p' here (Commit t) reply (Commits t) commits_effect
               (no_answer p' here _ (Commits t) (λ u. refl) (commits p p' here.bodies s1 h t b
-              (c ∙ (may_commit_with s1 t reply n is formed).1) r a l
+              (c ∙ (may_commit_with most_runs s1 t reply n is formed).1) r a l
               (m ∙ ap (λ (d : Draft). fresh d.map) view_is)));
         }

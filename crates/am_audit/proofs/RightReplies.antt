@@ -10,7 +10,7 @@ use Rattle.am_record.specs.declared.step.Step.TheVariants.{Do}
 use Rattle.am_record.specs.declared.step.Reply.{Reply}
 use Rattle.am_record.specs.declared.step.Reply.TheVariants.{Refused}
 use Rattle.am_record.specs.Refusals.{is_one_too_many}
-use Rattle.am_serial.specs.Machine.{State, due_early, blocker, locks_in}
+use Rattle.am_serial.specs.Machine.{State, is_full, due_early, blocker, locks_in}
 use Rattle.am_serial.specs.Sound.{FormedDo}
 use Rattle.am_serial.proofs.Sound.{not_answer, same_refusal}
 use Rattle.am_replies.specs.Refused.{is_early}
@@ -29,8 +29,9 @@ early_of_due false false false false true why h = let same : TooManyRuns ≡ why
 early_of_due false false false false false why h = absurd (cc)
 
 -- a refusal that is due early is an early one
-due_is_early : (s : State) (t : ℕ) (op : Op) (why : Refusal) → due_early s t op ≡ Some why → is_early why ≡ true
-due_is_early s t op why h = early_of_due _ _ _ _ _ why h
+due_is_early : (all_made : Bool) (s : State) (t : ℕ) (op : Op) (why : Refusal) → due_early all_made s t op ≡ Some why →
+    is_early why ≡ true
+due_is_early all_made s t op why h = early_of_due _ _ _ _ _ why h
 
 same_number : (h k : ℕ) → Refused (Busy h) ≡ Refused (Busy k) → h ≡ k
 same_number h k e = let same : Busy h ≡ Busy k = cc in cc
@@ -56,7 +57,11 @@ busy_refusal _ e = absurd (false≢true e)
 not_busy : (r : Reply) → busy_of r ≡ false → (h : ℕ) → r ≡ Refused (Busy h) → ⊥
 not_busy r e h is = true≢false (sym (ap busy_of is) ∙ e)
 
-module _ (s : State) (t : ℕ) (op : Op) (reply : Reply) where
+module _ (most_runs : ℕ) (s : State) (t : ℕ) (op : Op) (reply : Reply) where
+  -- whether no further run may be made
+  abbrev all_made : Bool
+  all_made = is_full most_runs s.runs reply
+
   abbrev full : Bool
   full = is_one_too_many (locks_in s.active t) (lock_of op)
 
@@ -65,35 +70,36 @@ module _ (s : State) (t : ℕ) (op : Op) (reply : Reply) where
 
   -- ---- a refusal is due early
 
-  pub early_right : (why : Refusal) → due_early s t op ≡ Some why → reply ≡ Refused why → IsRightOf s (Do t op) reply
+  pub early_right : (why : Refusal) → due_early all_made s t op ≡ Some why → reply ≡ Refused why →
+      IsRightOf most_runs s (Do t op) reply
   early_right why due is = record {
     formed = subst (λ o. FormedDo o full op reply) (sym due) is;
     busy = λ h. (
-      λ e. absurd (clash why (Busy h) (due_is_early s t op why due) refl (sym is ∙ e)),
+      λ e. absurd (clash why (Busy h) (due_is_early all_made s t op why due) refl (sym is ∙ e)),
       λ b. absurd (let no : Some why ≡ None = sym due ∙ b.0 in cc),
     );
   }
 
-  pub early_wrong : (why : Refusal) → due_early s t op ≡ Some why → (reply ≡ Refused why → ⊥) →
-      IsMisformedIn s (Do t op) reply
+  pub early_wrong : (why : Refusal) → due_early all_made s t op ≡ Some why → (reply ≡ Refused why → ⊥) →
+      IsMisformedIn most_runs s (Do t op) reply
   early_wrong why due not_it = record {
     form = λ f. let P : Option Refusal → Type 0 = λ o. FormedDo o full op reply in not_it (subst P due f);
-    first = λ early. absurd (not_it ((early why (due_is_early s t op why due)).1 due));
+    first = λ early. absurd (not_it ((early why (due_is_early all_made s t op why due)).1 due));
   }
 
   -- ---- none is
 
-  module _ (none : due_early s t op ≡ None) where
+  module _ (none : due_early all_made s t op ≡ None) where
     abbrev Formed : Type 0
     Formed = FormedDo None full op reply
 
-    to_formed : Formed → FormedIn s (Do t op) reply
+    to_formed : Formed → FormedIn most_runs s (Do t op) reply
     to_formed f = subst (λ o. FormedDo o full op reply) (sym none) f
 
-    from_formed : FormedIn s (Do t op) reply → Formed
+    from_formed : FormedIn most_runs s (Do t op) reply → Formed
     from_formed f = let P : Option Refusal → Type 0 = λ o. FormedDo o full op reply in subst P none f
 
-    pub early_unasked : early_of reply ≡ true → IsMisformedIn s (Do t op) reply
+    pub early_unasked : early_of reply ≡ true → IsMisformedIn most_runs s (Do t op) reply
     early_unasked h =
         let r = early_refusal reply h in
         record {
@@ -102,7 +108,7 @@ module _ (s : State) (t : ℕ) (op : Op) (reply : Reply) where
         }
 
     module _ (not_early : early_of reply ≡ false) where
-      early_in : EarlyIn s (Do t op) reply
+      early_in : EarlyIn most_runs s (Do t op) reply
       early_in why e = (
         λ is. absurd (true≢false (sym e ∙ sym (ap early_of is) ∙ not_early)),
         λ due. absurd (let no : None ≡ Some why = sym none ∙ due in cc),
@@ -111,13 +117,13 @@ module _ (s : State) (t : ℕ) (op : Op) (reply : Reply) where
       -- ---- another holds a conflicting lock
 
       pub blocked_wrong : (h : ℕ) → blocked ≡ Some h → (reply ≡ Refused (Busy h) → ⊥) →
-          IsWronglyBusyIn s (Do t op) reply
+          IsWronglyBusyIn most_runs s (Do t op) reply
       blocked_wrong h b not_it = record { busy = λ right. not_it ((right h).1 (none, b)); first = early_in }
 
       -- ---- nobody does
 
       module _ (free : blocked ≡ None) where
-        pub busy_unasked : busy_of reply ≡ true → IsWronglyBusyIn s (Do t op) reply
+        pub busy_unasked : busy_of reply ≡ true → IsWronglyBusyIn most_runs s (Do t op) reply
         busy_unasked e =
             let r = busy_refusal reply e in
             record {

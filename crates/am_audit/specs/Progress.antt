@@ -13,7 +13,7 @@ use Rattle.am_record.specs.declared.step.Reply.TheVariants.{Refused}
 use Rattle.am_record.specs.Refusals.{is_one_too_many}
 use Rattle.am_serial.specs.Trace.{Trace, Answered, Effect, Commits, answered_to, effect, IsAnsweredAlone}
 use Rattle.am_serial.specs.Machine.{State, Transaction, start, after_run, next, due_early, blocker, locks_in, body_in}
-use Rattle.am_serial.specs.Machine.{May}
+use Rattle.am_serial.specs.Machine.{is_full, May}
 use Rattle.am_serial.specs.Sound.{FormedDo}
 use Rattle.am_held_locks.specs.HeldLocks.{owner_of, RiseByNumber}
 use Rattle.am_replies.specs.Refused.{is_early}
@@ -85,69 +85,71 @@ progress_after here e = record {
 abbrev pub IsAt : Checker → Progress → Type 0
 IsAt p here = IsAtState p here.bodies here.state
 
--- ---- one event, by the machine's state before it
+-- ---- one event, by the machine's state before it; the machine makes so many runs at most
 
-abbrev pub FormedIn : State → Step → Reply → Type 0
-FormedIn s (Do t op) reply = FormedDo (due_early s t op) (is_one_too_many (locks_in s.active t) (lock_of op)) op reply
-FormedIn s step reply = May s step reply
+abbrev pub FormedIn : ℕ → State → Step → Reply → Type 0
+FormedIn most_runs s (Do t op) reply = FormedDo (due_early (is_full most_runs s.runs reply) s t op)
+    (is_one_too_many (locks_in s.active t) (lock_of op)) op reply
+FormedIn most_runs s step reply = May most_runs s step reply
 
-abbrev pub EarlyIn : State → Step → Reply → Type 0
-EarlyIn s (Do t op) reply = (why : Refusal) → is_early why ≡ true →
-    (reply ≡ Refused why) ↔ (due_early s t op ≡ Some why)
-EarlyIn s _ reply = Unit {0}
+abbrev pub EarlyIn : ℕ → State → Step → Reply → Type 0
+EarlyIn most_runs s (Do t op) reply = (why : Refusal) → is_early why ≡ true →
+    (reply ≡ Refused why) ↔ (due_early (is_full most_runs s.runs reply) s t op ≡ Some why)
+EarlyIn most_runs s _ reply = Unit {0}
 
-abbrev pub BusyIn : State → Step → Reply → Type 0
-BusyIn s (Do t op) reply = (h : ℕ) → (reply ≡ Refused (IsBusy h)) ↔
-    ((due_early s t op ≡ None) × (blocker s.active t (lock_of op) ≡ Some h))
-BusyIn s _ reply = Unit {0}
+abbrev pub BusyIn : ℕ → State → Step → Reply → Type 0
+BusyIn most_runs s (Do t op) reply = (h : ℕ) → (reply ≡ Refused (IsBusy h)) ↔
+    ((due_early (is_full most_runs s.runs reply) s t op ≡ None) × (blocker s.active t (lock_of op) ≡ Some h))
+BusyIn most_runs s _ reply = Unit {0}
 
 abbrev pub NextIn : State → Effect → Type 0
 NextIn s (Commits t) = IsAnsweredAlone (body_in s.active t) s.committed
 NextIn s _ = Unit {0}
 
 -- the reply is right, whatever a commit commits
-pub record IsRightOf (s : State) (step : Step) (reply : Reply) : Type 0 where
-  pub formed : FormedIn s step reply
-  pub busy : BusyIn s step reply
+pub record IsRightOf (most_runs : ℕ) (s : State) (step : Step) (reply : Reply) : Type 0 where
+  pub formed : FormedIn most_runs s step reply
+  pub busy : BusyIn most_runs s step reply
 
-pub record IsRightIn (s : State) (step : Step) (reply : Reply) : Type 0 where
-  pub said : IsRightOf s step reply
+pub record IsRightIn (most_runs : ℕ) (s : State) (step : Step) (reply : Reply) : Type 0 where
+  pub said : IsRightOf most_runs s step reply
   pub next : NextIn s (effect step reply)
 
 -- the event is right, and the audit stands behind it
-pub record TakesEvent (here : Progress) (step : Step) (reply : Reply) (p : Checker) : Type 0 where
-  pub right : IsRightIn here.state step reply
+pub record TakesEvent (most_runs : ℕ) (here : Progress) (step : Step) (reply : Reply) (p : Checker) : Type 0 where
+  pub right : IsRightIn most_runs here.state step reply
   pub stands : IsAt p (progress_after here (effect step reply))
 
 -- ---- a fault of the event that comes next
 
-pub record IsMisformedIn (s : State) (step : Step) (reply : Reply) : Type 0 where
-  pub form : ¬ (FormedIn s step reply)
-  pub first : EarlyIn s step reply → BusyIn s step reply
+pub record IsMisformedIn (most_runs : ℕ) (s : State) (step : Step) (reply : Reply) : Type 0 where
+  pub form : ¬ (FormedIn most_runs s step reply)
+  pub first : EarlyIn most_runs s step reply → BusyIn most_runs s step reply
 
-pub record IsWronglyBusyIn (s : State) (step : Step) (reply : Reply) : Type 0 where
-  pub busy : ¬ (BusyIn s step reply)
-  pub first : EarlyIn s step reply
+pub record IsWronglyBusyIn (most_runs : ℕ) (s : State) (step : Step) (reply : Reply) : Type 0 where
+  pub busy : ¬ (BusyIn most_runs s step reply)
+  pub first : EarlyIn most_runs s step reply
 
 -- the fault is one of the reply itself
-abbrev pub IsReplyFault : State → Step → Reply → EventFault → Type 0
-IsReplyFault s step reply Form = IsMisformedIn s step reply
-IsReplyFault s step reply Busy = IsWronglyBusyIn s step reply
-IsReplyFault s step reply (Answer position) = ⊥
-IsReplyFault s step reply NoMemory = Unit {0}
+abbrev pub IsReplyFault : ℕ → State → Step → Reply → EventFault → Type 0
+IsReplyFault most_runs s step reply Form = IsMisformedIn most_runs s step reply
+IsReplyFault most_runs s step reply Busy = IsWronglyBusyIn most_runs s step reply
+IsReplyFault most_runs s step reply (Answer position) = ⊥
+IsReplyFault most_runs s step reply NoMemory = Unit {0}
 
 -- a formed commit of a body with that wrong answer
-pub record CommitsWronglyIn (here : Progress) (step : Step) (reply : Reply) (position : ℕ) : Type 0 where
-  pub t : ℕ
-  pub formed : FormedIn here.state step reply
-  pub commit : effect step reply ≡ Commits t
-  pub answer : IsFirstWrong (here.bodies t) (fresh here.state.committed) position
+pub record CommitsWronglyIn (most_runs : ℕ) (here : Progress) (step : Step) (reply : Reply) (position : ℕ) : Type 0
+  where
+    pub t : ℕ
+    pub formed : FormedIn most_runs here.state step reply
+    pub commit : effect step reply ≡ Commits t
+    pub answer : IsFirstWrong (here.bodies t) (fresh here.state.committed) position
 
-abbrev pub IsEventFault : Progress → Step → Reply → EventFault → Type 0
-IsEventFault here step reply Form = IsMisformedIn here.state step reply
-IsEventFault here step reply Busy = IsWronglyBusyIn here.state step reply
-IsEventFault here step reply (Answer position) = CommitsWronglyIn here step reply position
-IsEventFault here step reply NoMemory = Unit {0}
+abbrev pub IsEventFault : ℕ → Progress → Step → Reply → EventFault → Type 0
+IsEventFault most_runs here step reply Form = IsMisformedIn most_runs here.state step reply
+IsEventFault most_runs here step reply Busy = IsWronglyBusyIn most_runs here.state step reply
+IsEventFault most_runs here step reply (Answer position) = CommitsWronglyIn most_runs here step reply position
+IsEventFault most_runs here step reply NoMemory = Unit {0}
 
 -- how the fault of the event at that place is told
 abbrev pub fault_of : ℕ → EventFault → Fault

@@ -1,9 +1,9 @@
 //! The audit of a trace, event by event.
 
-ghost use Rattle.std.specs.Prelude.{◌≡◌, ◌==◌, not, map, filter, [], None, true, false, IfErr, IfOk, OnOk};
+ghost use Rattle.std.specs.Prelude.{◌≡◌, ◌==◌, ℕ, not, map, filter, [], None, true, false, IfErr, IfOk, OnOk};
 ghost use Rattle.am_record.specs.declared.step.Step.TheVariants.{Begin, Do, Commit, Abort, Merge, Clean};
 ghost use Rattle.am_locks.specs.Table.{is_owner, without_owner};
-ghost use Rattle.am_serial.specs.Machine.{due_early};
+ghost use Rattle.am_serial.specs.Machine.{due_early, is_full};
 ghost use Rattle.am_replies.specs.OwnAnswers.{listed};
 
 use crate::verdict::verdict;
@@ -11,7 +11,7 @@ use am_held_locks::HeldLocks;
 use am_model::Plain;
 use am_record::{NoMemory, Op, Range, Reply, Step};
 use am_replies::{
-    Active, EventFault, OwnAnswer, forget, is_active, is_early, is_refusal, is_refused,
+    Active, EventFault, OwnAnswer, forget, is_active, is_early, is_full, is_refusal, is_refused,
     keep_answer, may_abort, may_begin, may_clean, may_commit, may_merge, operation_count,
     own_answers, refusal, replay, runs_made,
 };
@@ -23,6 +23,8 @@ pub(crate) struct Checker {
     pub(crate) begun: u64,
     pub(crate) commits: u64,
     pub(crate) runs: u32,
+    /// How many runs the store may have made in all.
+    pub(crate) most_runs: u32,
     pub(crate) active: Vec<Active>,
     pub(crate) locks: HeldLocks,
     /// The map that the committed transactions leave.
@@ -37,13 +39,15 @@ impl Checker {
     ///
     /// # Errors
     /// NoMemory, where memory was refused for the locks.
-    pub(crate) fn new(alloc: Global) -> Result<Checker, NoMemory>
-        ensures { IfOk result (λ checker. IsAt checker (progress_of [])) }
+    pub(crate) fn new(alloc: Global, most_runs: u32) -> Result<Checker, NoMemory>
+        ensures stands { IfOk result (λ checker. IsAt checker (progress_of [])) }
+        ensures most { IfOk result (λ checker. checker.most_runs ≡ most_runs) }
     {
         Ok(Checker {
             begun: 0,
             commits: 0,
             runs: 0,
+            most_runs,
             active: Vec::new(alloc),
             locks: HeldLocks::new(alloc)?,
             committed: Plain::new(alloc),
@@ -64,8 +68,9 @@ impl Checker {
         ghost here: { Progress }
         requires stands { IsAt self.old here }
         requires position { position ≡ here.count }
-        ensures takes { OnOk result (TakesEvent here step reply self.new) }
-        ensures event_fault { IfErr result (IsEventFault here step reply) }
+        ensures takes { OnOk result (TakesEvent self.old.most_runs here step reply self.new) }
+        ensures event_fault { IfErr result (IsEventFault self.old.most_runs here step reply) }
+        ensures most { self.new.most_runs ≡ self.old.most_runs }
     {
         match step {
             Step::Begin => self.begin(alloc, &reply),
@@ -80,8 +85,9 @@ impl Checker {
     fn begin(&mut self, alloc: Global, reply: &Reply) -> Result<(), EventFault>
         ghost here: { Progress }
         requires { IsAt self.old here }
-        ensures takes { OnOk result (TakesEvent here Begin reply.now self.new) }
-        ensures event_fault { IfErr result (IsEventFault here Begin reply.now) }
+        ensures takes { OnOk result (TakesEvent self.old.most_runs here Begin reply.now self.new) }
+        ensures event_fault { IfErr result (IsEventFault self.old.most_runs here Begin reply.now) }
+        ensures most { self.new.most_runs ≡ self.old.most_runs }
     {
         if !may_begin(self.begun, self.active.len(), reply) {
             return Err(EventFault::Form);
@@ -98,8 +104,9 @@ impl Checker {
     fn abort(&mut self, tx: u64, reply: &Reply) -> Result<(), EventFault>
         ghost here: { Progress }
         requires { IsAt self.old here }
-        ensures takes { OnOk result (TakesEvent here (Abort tx) reply.now self.new) }
-        ensures event_fault { IfErr result (IsEventFault here (Abort tx) reply.now) }
+        ensures takes { OnOk result (TakesEvent self.old.most_runs here (Abort tx) reply.now self.new) }
+        ensures event_fault { IfErr result (IsEventFault self.old.most_runs here (Abort tx) reply.now) }
+        ensures most { self.new.most_runs ≡ self.old.most_runs }
     {
         let was_active = is_active(&self.active, tx);
         if !may_abort(was_active, tx, reply) {
@@ -114,8 +121,9 @@ impl Checker {
     fn commit(&mut self, tx: u64, reply: &Reply) -> Result<(), EventFault>
         ghost here: { Progress }
         requires { IsAt self.old here }
-        ensures takes { OnOk result (TakesEvent here (Commit tx) reply.now self.new) }
-        ensures event_fault { IfErr result (IsEventFault here (Commit tx) reply.now) }
+        ensures takes { OnOk result (TakesEvent self.old.most_runs here (Commit tx) reply.now self.new) }
+        ensures event_fault { IfErr result (IsEventFault self.old.most_runs here (Commit tx) reply.now) }
+        ensures most { self.new.most_runs ≡ self.old.most_runs }
     {
         if !may_commit(is_active(&self.active, tx), self.commits, tx, reply) {
             return Err(EventFault::Form);
@@ -139,10 +147,12 @@ impl Checker {
         ghost here: { Progress }
         requires stands { IsAt self.old here }
         requires position { position ≡ here.count }
-        ensures takes { OnOk result (TakesEvent here (Do tx op) reply self.new) }
-        ensures event_fault { IfErr result (IsEventFault here (Do tx op) reply) }
+        ensures takes { OnOk result (TakesEvent self.old.most_runs here (Do tx op) reply self.new) }
+        ensures event_fault { IfErr result (IsEventFault self.old.most_runs here (Do tx op) reply) }
+        ensures most { self.new.most_runs ≡ self.old.most_runs }
     {
-        if let Some(why) = refusal(operation_count(&self.active, tx), self.runs, tx, &op) {
+        let full = is_full(self.most_runs, self.runs, &reply);
+        if let Some(why) = refusal(operation_count(&self.active, tx), full, tx, &op) {
             if !is_refused(&reply, why) {
                 return Err(EventFault::Form);
             }
@@ -156,13 +166,15 @@ impl Checker {
 
     // The operation is one to which no early refusal is due.
     fn perform(&mut self, position: usize, tx: u64, op: Op, reply: Reply) -> Result<(), EventFault>
-        ghost here: { Progress }
-        requires stands { IsAt self.old here }
-        requires position { position ≡ here.count }
-        requires early { due_early here.state tx op ≡ None }
+        ghost at: { ℕ × Progress }
+        requires stands { IsAt self.old at.1 }
+        requires position { position ≡ at.1.count }
+        requires early { due_early (is_full at.0 at.1.state.runs reply) at.1.state tx op ≡ None }
         requires not_early { early_of reply ≡ false }
-        ensures takes { OnOk result (TakesEvent here (Do tx op) reply self.new) }
-        ensures event_fault { IfErr result (IsEventFault here (Do tx op) reply) }
+        requires most { self.old.most_runs ≡ at.0 }
+        ensures takes { OnOk result (TakesEvent at.0 at.1 (Do tx op) reply self.new) }
+        ensures event_fault { IfErr result (IsEventFault at.0 at.1 (Do tx op) reply) }
+        ensures most { self.new.most_runs ≡ self.old.most_runs }
     {
         if is_refusal(&reply) {
             let asked = self.locks.look(tx, op.asked_lock());
@@ -189,8 +201,9 @@ impl Checker {
     fn merge(&mut self, limit: u64, reply: &Reply) -> Result<(), EventFault>
         ghost here: { Progress }
         requires { IsAt self.old here }
-        ensures takes { OnOk result (TakesEvent here (Merge limit) reply.now self.new) }
-        ensures event_fault { IfErr result (IsEventFault here (Merge limit) reply.now) }
+        ensures takes { OnOk result (TakesEvent self.old.most_runs here (Merge limit) reply.now self.new) }
+        ensures event_fault { IfErr result (IsEventFault self.old.most_runs here (Merge limit) reply.now) }
+        ensures most { self.new.most_runs ≡ self.old.most_runs }
     {
         if !may_merge(self.runs, limit, reply) {
             return Err(EventFault::Form);
@@ -201,8 +214,9 @@ impl Checker {
     fn clean(&mut self, range: Range, limit: u64, reply: &Reply) -> Result<(), EventFault>
         ghost here: { Progress }
         requires { IsAt self.old here }
-        ensures takes { OnOk result (TakesEvent here (Clean range limit) reply.now self.new) }
-        ensures event_fault { IfErr result (IsEventFault here (Clean range limit) reply.now) }
+        ensures takes { OnOk result (TakesEvent self.old.most_runs here (Clean range limit) reply.now self.new) }
+        ensures event_fault { IfErr result (IsEventFault self.old.most_runs here (Clean range limit) reply.now) }
+        ensures most { self.new.most_runs ≡ self.old.most_runs }
     {
         if !may_clean(range, limit, reply) {
             return Err(EventFault::Form);

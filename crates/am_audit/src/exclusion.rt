@@ -8,9 +8,10 @@ ghost use Rattle.am_audit.specs.declared.fault.FaultKind.{FaultKind};
 
 /// A trace has one first fault at most, and one that has it isn't legal.
 pub fn first_faults_exclude()
-    ensures legal { (trace : Trace) (line : ℕ) (kind : FaultKind) → IsFirstFault trace line kind → ¬ (IsLegal trace) }
-    ensures one { (trace : Trace) (l m : ℕ) (j k : FaultKind) → IsFirstFault trace l j → IsFirstFault trace m k →
-        (l ≡ m) × (j ≡ k) }
+    ensures legal { (most_runs : ℕ) (trace : Trace) (line : ℕ) (kind : FaultKind) →
+        IsFirstFault most_runs trace line kind → ¬ (IsLegal most_runs trace) }
+    ensures one { (most_runs : ℕ) (trace : Trace) (l m : ℕ) (j k : FaultKind) → IsFirstFault most_runs trace l j →
+        IsFirstFault most_runs trace m k → (l ≡ m) × (j ≡ k) }
 {
     am_serial::formed_traces_follow();
 }

@@ -1,6 +1,6 @@
 //! Judging a trace.
 
-ghost use Rattle.std.specs.Prelude.{◌≡◌, ◌+◌, ◌<◌, ◌^◌, ◌++◌, ◌∷◌, [], length, IfOk, IfErr, OnOk};
+ghost use Rattle.std.specs.Prelude.{◌≡◌, ℕ, ◌+◌, ◌<◌, ◌^◌, ◌++◌, ◌∷◌, [], length, IfOk, IfErr, OnOk};
 ghost use Rattle.std.specs.FinMap.{entries};
 ghost use Rattle.am_serial.specs.Trace.{Trace, effects, committers, committed};
 ghost use Rattle.am_serial.specs.Legal.{IsLegal};
@@ -37,15 +37,15 @@ impl Drop for Audit {
 impl Audit {
     ghost use Rattle.am_audit.specs.AuditStates.{HasJudged, CanJudge};
 
-    /// Nothing is judged.
+    /// Nothing is judged, of a store that makes so many runs at most.
     ///
     /// # Errors
     /// NoMemory, where memory was refused for what is kept of the events.
-    pub fn new(alloc: Global) -> Result<Audit, NoMemory>
-        ensures { IfOk result (λ audit. HasJudged audit []) }
+    pub fn new(alloc: Global, most_runs: u32) -> Result<Audit, NoMemory>
+        ensures { IfOk result (λ audit. HasJudged most_runs audit []) }
     {
         Ok(Audit {
-            checker: Checker::new(alloc)?,
+            checker: Checker::new(alloc, most_runs)?,
             seen: 0,
             fault: None,
         })
@@ -54,7 +54,8 @@ impl Audit {
     /// Judges the event that comes next.
     pub fn judge(&mut self, alloc: Global, step: Step, reply: Reply)
         requires { CanJudge self.old }
-        ensures { (seen : Trace) → HasJudged self.old seen → HasJudged self.new (seen ++ (step, reply) ∷ []) }
+        ensures { (most_runs : ℕ) (seen : Trace) → HasJudged most_runs self.old seen →
+            HasJudged most_runs self.new (seen ++ (step, reply) ∷ []) }
     {
         am_serial::formed_traces_follow();
         if self.fault.is_none() {
@@ -67,8 +68,9 @@ impl Audit {
 
     // Judges copies of these events, the first ones.
     fn judge_all(&mut self, alloc: Global, trace: &[(Step, Reply)]) -> Result<(), NoMemory>
-        requires { HasJudged self.old [] }
-        ensures { OnOk result (HasJudged self.new trace.now) }
+        ghost most_runs: { ℕ }
+        requires { HasJudged most_runs self.old [] }
+        ensures { OnOk result (HasJudged most_runs self.new trace.now) }
     {
         for (step, reply) in trace {
             let step = step.copy(alloc)?;
@@ -84,9 +86,11 @@ impl Audit {
     /// Wrong, exactly where the trace isn't formed, right in its Busy answers and serial: the first fault
     /// and its line. NoMemory in place of any answer, where memory was refused.
     pub fn verdict(&self) -> Result<u64, Fault>
-        ensures legal { IfOk result (λ commits. (seen : Trace) → HasJudged self.now seen →
-            IsLegal seen × (commits ≡ length (committers (effects seen)))) }
-        ensures wrong { IfErr result (λ fault. (seen : Trace) → HasJudged self.now seen → IsTrueFault seen fault) }
+        ensures legal { IfOk result (λ commits. (most_runs : ℕ) (seen : Trace) →
+            HasJudged most_runs self.now seen →
+            IsLegal most_runs seen × (commits ≡ length (committers (effects seen)))) }
+        ensures wrong { IfErr result (λ fault. (most_runs : ℕ) (seen : Trace) →
+            HasJudged most_runs self.now seen → IsTrueFault most_runs seen fault) }
     {
         am_serial::formed_traces_follow();
         match self.fault {
@@ -101,9 +105,11 @@ impl Audit {
     /// # Errors
     /// What `verdict` says of the events. NoMemory in place of any answer, where memory was refused.
     pub fn records(&self, alloc: Global) -> Result<Vec<(Key, Value)>, Fault>
-        ensures legal { IfOk result (λ rows. (seen : Trace) → HasJudged self.now seen →
-            IsLegal seen × (rows.items ≡ entries (committed (effects seen)))) }
-        ensures wrong { IfErr result (λ fault. (seen : Trace) → HasJudged self.now seen → IsTrueFault seen fault) }
+        ensures legal { IfOk result (λ rows. (most_runs : ℕ) (seen : Trace) →
+            HasJudged most_runs self.now seen →
+            IsLegal most_runs seen × (rows.items ≡ entries (committed (effects seen)))) }
+        ensures wrong { IfErr result (λ fault. (most_runs : ℕ) (seen : Trace) →
+            HasJudged most_runs self.now seen → IsTrueFault most_runs seen fault) }
     {
         am_serial::formed_traces_follow();
         if let Some(fault) = self.fault {
@@ -116,17 +122,18 @@ impl Audit {
     }
 }
 
-/// Judges a trace, and answers how many transactions it commits.
+/// Judges a trace of a store that makes so many runs at most, and answers how many transactions it commits.
 ///
 /// # Errors
 /// Wrong, exactly where the trace isn't formed, right in its Busy answers and serial: the first fault
 /// and its line. NoMemory in place of any answer, where memory was refused.
 #[inline(never)]
-pub fn check(alloc: Global, trace: &[(Step, Reply)]) -> Result<u64, Fault>
-    ensures legal { IfOk result (λ commits. IsLegal trace.now × (commits ≡ length (committers (effects trace.now)))) }
-    ensures wrong { IfErr result (IsTrueFault trace.now) }
+pub fn check(alloc: Global, most_runs: u32, trace: &[(Step, Reply)]) -> Result<u64, Fault>
+    ensures legal { IfOk result (λ commits. IsLegal most_runs trace.now ×
+        (commits ≡ length (committers (effects trace.now)))) }
+    ensures wrong { IfErr result (IsTrueFault most_runs trace.now) }
 {
-    let Ok(mut audit) = Audit::new(alloc) else {
+    let Ok(mut audit) = Audit::new(alloc, most_runs) else {
         return Err(Fault::NoMemory);
     };
     let Ok(()) = audit.judge_all(alloc, trace) else {

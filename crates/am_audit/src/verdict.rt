@@ -1,9 +1,9 @@
 //! The verdict on an operation's reply.
 
-ghost use Rattle.std.specs.Prelude.{◌≡◌, None, false, IfErr, OnOk};
+ghost use Rattle.std.specs.Prelude.{◌≡◌, ℕ, None, false, IfErr, OnOk};
 ghost use Rattle.am_record.specs.Asks.{lock_of};
 ghost use Rattle.am_record.specs.declared.step.Step.TheVariants.{Do};
-ghost use Rattle.am_serial.specs.Machine.{State, due_early};
+ghost use Rattle.am_serial.specs.Machine.{State, due_early, is_full};
 ghost use Rattle.am_held_locks.specs.HeldLocks.{IsAnswerTo};
 ghost use Rattle.am_replies.specs.Refused.{early_of, refused_of};
 ghost use Rattle.am_audit.specs.Progress.{IsRightOf, IsReplyFault};
@@ -17,13 +17,13 @@ use am_replies::{EventFault, is_answer, is_busy, is_refused};
 /// # Errors
 /// Busy, then Form. NoMemory, where the lock wanted memory.
 pub(crate) fn verdict(asked: Asked, tx: u64, op: &Op, reply: &Reply) -> Result<(), EventFault>
-    ghost s: { State }
-    requires early { due_early s tx op.now ≡ None }
+    ghost at: { ℕ × State }
+    requires early { due_early (is_full at.0 at.1.runs reply.now) at.1 tx op.now ≡ None }
     requires not_early { early_of reply.now ≡ false }
-    requires asked { IsAnswerTo s.active tx (lock_of op.now) asked }
-    ensures right { OnOk result (IsRightOf s (Do tx op.now) reply.now) }
+    requires asked { IsAnswerTo at.1.active tx (lock_of op.now) asked }
+    ensures right { OnOk result (IsRightOf at.0 at.1 (Do tx op.now) reply.now) }
     ensures granted { OnOk result (refused_of reply.now ≡ false → asked ≡ Asked.Granted) }
-    ensures event_fault { IfErr result (IsReplyFault s (Do tx op.now) reply.now) }
+    ensures event_fault { IfErr result (IsReplyFault at.0 at.1 (Do tx op.now) reply.now) }
 {
     match asked {
         Asked::NoMemory => Err(EventFault::NoMemory),

@@ -18,7 +18,7 @@ pub record IsReadTo (text : List ℕ) (v : Version) (rest : List ℕ) (line : �
   pub events : AreEvents v seen
   pub spelled : text ≡ trace_text v seen ++ rest
   pub count : line ≡ length seen + 2
-  pub judged : HasJudged audit seen
+  pub judged : HasJudged 65535 audit seen
 
 lines_long : (v : Version) (trace : Trace) → length trace ≤ length (event_lines v trace)
 lines_long v [] = omega arith
@@ -46,6 +46,7 @@ is_short text v rest line audit h =
 pub can_judge : (text : List ℕ) (v : Version) (rest : List ℕ) (line : ℕ) (audit : Audit) → length text < 2 ^ 63 →
     IsReadTo text v rest line audit → CanJudge audit
 can_judge text v rest line audit long h = record {
+  most_runs = 65535;
   seen = h.seen;
   judged = h.judged;
   room =
@@ -57,7 +58,7 @@ can_judge text v rest line audit long h = record {
 pub one_more : (text : List ℕ) (v : Version) (rest further : List ℕ) (line : ℕ) (step : Step) (reply : Reply)
     (audit now : Audit) → IsReadTo text v rest line audit → IsEvent v (step, reply) →
     rest ≡ with_lf (event_words v (step, reply)) ++ further →
-    ((seen : Trace) → HasJudged audit seen → HasJudged now (seen ++ (step, reply) ∷ [])) →
+    ((seen : Trace) → HasJudged 65535 audit seen → HasJudged 65535 now (seen ++ (step, reply) ∷ [])) →
     IsReadTo text v further (line + 1) now
 one_more text v rest further line step reply audit now h event is goes = record {
   seen = h.seen ++ (step, reply) ∷ [];

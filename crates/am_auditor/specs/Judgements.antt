@@ -18,16 +18,16 @@ use Rattle.am_auditor.specs.declared.judgement.Judgement.TheVariants.{Legal, Wro
 -- of a legal trace its number of commits, of another its first fault, of what is no trace its first bad line; want of
 -- memory says nothing
 abbrev pub IsTrueOf : List ℕ → Judgement → Type 0
-IsTrueOf text (Legal commits) = (trace : Trace) × IsTextOf text trace × IsLegal trace ×
+IsTrueOf text (Legal commits) = (trace : Trace) × IsTextOf text trace × IsLegal 65535 trace ×
     (commits ≡ length (committers (effects trace)))
-IsTrueOf text (Wrong line kind) = (trace : Trace) × IsTextOf text trace × IsFirstFault trace line kind
+IsTrueOf text (Wrong line kind) = (trace : Trace) × IsTextOf text trace × IsFirstFault 65535 trace line kind
 IsTrueOf text (Bad line) = IsBadLine text line
 IsTrueOf text NoFile = ⊥
 IsTrueOf text NoMemory = Unit {0}
 
 -- the text is that of a trace, all events of which were judged
 abbrev pub HasText : List ℕ → Audit → Type 0
-HasText text audit = (trace : Trace) × IsTextOf text trace × HasJudged audit trace
+HasText text audit = (trace : Trace) × IsTextOf text trace × HasJudged 65535 audit trace
 
 abbrev pub kind_word : FaultKind → List ℕ
 kind_word Form = codes " FORM\n"
@@ -62,7 +62,7 @@ records_text (r ∷ rs) = record_line r ++ records_text rs
 pub record HasRecords (text lines : List ℕ) : Type 0 where
   pub trace : Trace
   pub is_text : IsTextOf text trace
-  pub legal : IsLegal trace
+  pub legal : IsLegal 65535 trace
   pub are : lines ≡ records_text (entries (committed (effects trace)))
 
 -- a true judgement that isn't Legal

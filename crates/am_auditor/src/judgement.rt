@@ -10,6 +10,7 @@ ghost use Rattle.am_auditor.specs.Judgements.{IsTrueOf, SaysJudgement, IsBegun, 
 ghost use Rattle.am_auditor.specs.Judgements.{HasText};
 
 use am_audit::{Audit, Fault, FaultKind};
+use am_record::MAX_RUNS;
 use am_sink::{Failed, Sink, give_all};
 use am_text::Text;
 use am_trace_read::{read_header, read_line};
@@ -46,7 +47,7 @@ fn judge_text(alloc: Global, text: &[u8]) -> Judgement
 
 /// What is to be said of a trace with the fault.
 pub(crate) fn judgement_of(fault: Fault) -> Judgement
-    ensures told { (text : List ℕ) (trace : Trace) → IsTextOf text trace → IsTrueFault trace fault →
+    ensures told { (text : List ℕ) (trace : Trace) → IsTextOf text trace → IsTrueFault 65535 trace fault →
         IsTrueOf text result }
     ensures others { judgement_status result ≢ 0 }
 {
@@ -68,7 +69,7 @@ pub(crate) fn audit_text(alloc: Global, text: &[u8]) -> Result<Audit, Judgement>
     let Some((version, mut rest)) = read_header(text) else {
         return Err(Judgement::Bad(1));
     };
-    let Ok(mut audit) = Audit::new(alloc) else {
+    let Ok(mut audit) = Audit::new(alloc, MAX_RUNS) else {
         return Err(Judgement::NoMemory);
     };
     let _bytes = text.len();

@@ -1,5 +1,6 @@
 -- What a call does to the store behind a handle, by the contract of the store's own `step`.
 use Rattle.std.specs.Prelude.{◌≡◌, ℕ, List, [], ◌∷◌, Option, None, Some, Result, Ok, Err}
+use Rattle.am_record.specs.Limits.{last_run}
 use Rattle.am_record.specs.declared.step.Refusal.{Refusal}
 use Rattle.am_record.specs.declared.step.Step.{Step}
 use Rattle.am_record.specs.declared.step.Reply.{Reply}
@@ -48,7 +49,7 @@ pub record TellsLoad (old : Option StoreState) (tx : ℕ) (records : List Record
 
 -- no step was taken yet
 pub record IsNew (p : StoreState) : Type 0 where
-  pub empty : p ≡ empty_state
+  pub empty : p ≡ empty_state last_run
   pub stands : IsSoundAt [] p
 
 -- a store is opened where there is none, or memory is refused; where there is one, it stays

@@ -9,7 +9,7 @@ use am_c_steps::Status;
 use am_core::Store;
 use std::alloc::Global;
 
-/// `tvk_counts` of the header.
+/// `tvk_figures_t` of the header.
 #[repr(C)]
 #[derive(Clone, Copy)]
 pub struct StoreFigures {

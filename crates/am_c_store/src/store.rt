@@ -7,10 +7,10 @@ use crate::handle::Handle;
 use am_btree::BTree;
 use am_c_steps::Status;
 use am_core::Store;
-use am_record::{HashKey, NoMemory};
+use am_record::{HashKey, LAST_RUN, NoMemory};
 use std::alloc::Global;
 
-/// Opens an empty store behind a handle that has none.
+/// Opens an empty store behind a handle that has none. It makes as many runs as there are numbers.
 pub fn open_store(alloc: Global, store: &mut Handle, hash: HashKey) -> u32
     ensures { Opens store.old.held result store.new.held }
 {
@@ -30,7 +30,7 @@ pub fn open_store(alloc: Global, store: &mut Handle, hash: HashKey) -> u32
 fn new_store(alloc: Global, hash: HashKey) -> Result<Box<Store<BTree>>, NoMemory>
     ensures { IfOk result (λ b. IsNew b.value) }
 {
-    let store = Store::open(alloc, BTree::new(alloc)?, hash)?;
+    let store = Store::open_for(alloc, BTree::new(alloc)?, hash, LAST_RUN)?;
     Ok(Box::new(alloc, store)?)
 }
 

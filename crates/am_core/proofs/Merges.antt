@@ -36,15 +36,17 @@ pub none_merged : (es : List Entry) (wishes : List Interval) (why : Refusal) →
 none_merged es [] why = refl
 none_merged es (w ∷ ws) why = refl
 
-module _ (parts : Partitions) (t : Txs) (wishes : List Interval) (commits limit : ℕ) where
-  pub says_bad_merge : is_limit limit ≡ false → MayAnswer (state_kept parts t wishes commits) (Merge limit)
+module _ (most_runs : ℕ) (parts : Partitions) (t : Txs) (wishes : List Interval) (commits limit : ℕ) where
+  pub says_bad_merge : is_limit limit ≡ false → MayAnswer (state_kept most_runs parts t wishes commits) (Merge limit)
       (Refused BadLimit)
   says_bad_merge e = subst (λ b. MatchBool b (MergeRight parts.entries wishes (holder_in (actives t)) limit
       (Refused BadLimit)) (◌≡◌ {A = Reply} (Refused BadLimit) (Refused BadLimit))) (sym e) refl
 
-  pub after_bad_merge : state_kept parts t wishes commits ≡ state_after (state_kept parts t wishes commits)
+  pub after_bad_merge : state_kept most_runs parts t wishes commits ≡ state_after
+      (state_kept most_runs parts t wishes commits)
       (Merge limit) (Refused BadLimit)
   after_bad_merge = λ i. record {
+    most_runs = most_runs;
     entries = all_worked_off (sym (none_merged parts.entries wishes BadLimit) i)
         parts.entries;
     wishes = wishes;
@@ -54,7 +56,8 @@ module _ (parts : Partitions) (t : Txs) (wishes : List Interval) (commits limit 
     active = actives t;
   }
 
-  pub says_bad_clean : (range : Interval) → is_limit limit ≡ false → MayAnswer (state_kept parts t wishes commits)
+  pub says_bad_clean : (range : Interval) → is_limit limit ≡ false →
+      MayAnswer (state_kept most_runs parts t wishes commits)
       (Clean range limit) (Refused BadLimit)
   says_bad_clean range e = subst (λ b. MatchBool b
       (CleanRight parts.entries (holder_in (actives t)) range limit (Refused BadLimit))
@@ -63,7 +66,8 @@ module _ (parts : Partitions) (t : Txs) (wishes : List Interval) (commits limit 
   -- ---- a limit that is one
 
   pub says_merge : (reply : Reply) → IsConsistent t → is_limit limit ≡ true →
-      MergeRight parts.entries wishes (holder_of t.locks) limit reply → MayAnswer (state_kept parts t wishes commits)
+      MergeRight parts.entries wishes (holder_of t.locks) limit reply →
+      MayAnswer (state_kept most_runs parts t wishes commits)
       (Merge limit) reply
   says_merge reply ok e right =
       subst (λ b. MatchBool b (MergeRight parts.entries wishes (holder_in (actives t)) limit reply)
@@ -73,8 +77,10 @@ module _ (parts : Partitions) (t : Txs) (wishes : List Interval) (commits limit 
   pub after_merge : (parts' : Partitions) (wishes' : List Interval) (reply : Reply) →
       parts'.entries ≡ all_worked_off (merged_by parts.entries wishes reply) parts.entries →
       wishes' ≡ wishes_left wishes reply → parts'.runs ≡ parts.runs
-      → state_kept parts' t wishes' commits ≡ state_after (state_kept parts t wishes commits) (Merge limit) reply
+      → state_kept most_runs parts' t wishes' commits ≡ state_after (state_kept most_runs parts t wishes commits)
+      (Merge limit) reply
   after_merge parts' wishes' reply entries ws runs = λ i. record {
+    most_runs = most_runs;
     entries = entries i;
     wishes = ws i;
     begun = t.begun;
@@ -84,7 +90,8 @@ module _ (parts : Partitions) (t : Txs) (wishes : List Interval) (commits limit 
   }
 
   pub says_clean : (range : Interval) (reply : Reply) → IsConsistent t → is_limit limit ≡ true →
-      CleanRight parts.entries (holder_of t.locks) range limit reply → MayAnswer (state_kept parts t wishes commits)
+      CleanRight parts.entries (holder_of t.locks) range limit reply →
+      MayAnswer (state_kept most_runs parts t wishes commits)
       (Clean range limit) reply
   says_clean range reply ok e right =
       subst (λ b. MatchBool b (CleanRight parts.entries (holder_in (actives t)) range limit reply)
@@ -94,11 +101,13 @@ module _ (parts : Partitions) (t : Txs) (wishes : List Interval) (commits limit 
   pub after_clean : (range : Interval) (parts' : Partitions) (reply : Reply) → IsConsistent t →
       parts'.entries ≡ all_worked_off (cleaned_by parts.entries (holder_of t.locks) range reply) parts.entries →
       parts'.runs ≡ parts.runs
-      → state_kept parts' t wishes commits ≡ state_after (state_kept parts t wishes commits) (Clean range limit) reply
+      → state_kept most_runs parts' t wishes commits ≡ state_after (state_kept most_runs parts t wishes commits)
+      (Clean range limit) reply
   after_clean range parts' reply ok entries runs =
       let es = entries ∙ (λ i. all_worked_off (cleaned_by parts.entries (holders_are t ok i) range reply)
       parts.entries) in
       λ i. record {
+        most_runs = most_runs;
         entries = es i;
         wishes = wishes;
         begun = t.begun;

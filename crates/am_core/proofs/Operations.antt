@@ -1,22 +1,24 @@
 -- What an operation that is refused, that wants memory, and that is done leave of what is kept.
-use Rattle.std.proofs.Common.{◌≡◌, ◌<◌, ◌+◌, ◌++◌, ◌⊎◌, inl, inr, ℕ, List, length, take, Bool, true, false}
+use Rattle.std.proofs.Common.{◌≡◌, ◌<◌, ◌≤◌, ◌+◌, ◌++◌, ◌⊎◌, inl, inr, ℕ, List, length, take, Bool, true, false}
 use Rattle.std.proofs.Common.{cond, Option, Some, None, refl, sym, ap, ◌∙◌, subst, ⊎_elim, arith}
-use Rattle.std.specs.Prelude.{nat_le, MatchOption}
+use Rattle.std.specs.Prelude.{nat_le, ◌&&◌, ◌||◌, MatchOption}
 use Rattle.std.specs.FinMap.{get, contains_key}
-use Rattle.std.proofs.lemmas.Bool.{leb-false, or_right, or_left}
+use Rattle.std.proofs.lemmas.Bool.{leb-false, leb-true, le-leb, or_right, or_left, cases_Bool}
 use Rattle.am_record.specs.Interval.{Interval}
 use Rattle.am_record.specs.OrderedKey.{OrderedKey}
 use Rattle.am_record.specs.Plain.{PlainMap, found, exists_or_done, least_taken}
 use Rattle.am_record.specs.Asks.{lock_of, with_asked}
 use Rattle.am_record.specs.declared.lock.Lock.{Lock as TheLock}
 use Rattle.am_record.specs.declared.step.Refusal.{Refusal}
-use Rattle.am_record.specs.declared.step.Refusal.TheVariants.{TooManyOps, NoMemory}
+use Rattle.am_record.specs.declared.step.Refusal.TheVariants.{NoSuchTx, TooManyOps, NotRising, BadLimit, TooManyRuns}
+use Rattle.am_record.specs.declared.step.Refusal.TheVariants.{NoMemory}
 use Rattle.am_record.specs.declared.step.Op.{Op}
 use Rattle.am_record.specs.declared.step.Op.TheVariants.{Get, Insert, Replace, Delete, Load, Back}
 use Rattle.am_record.specs.declared.step.Step.TheVariants.{Do}
 use Rattle.am_record.specs.declared.step.Reply.{Reply}
 use Rattle.am_record.specs.declared.step.Reply.TheVariants.{Done, NoMark, Exists, Missing, Refused}
 use Rattle.am_index.specs.Content.{content}
+use Rattle.am_parts.specs.Catalogs.{runs_in}
 use Rattle.am_parts.specs.Partitions.{Partitions}
 use Rattle.am_undo.specs.Log.{Log}
 use Rattle.am_record.specs.Marks.{since_mark, has_mark}
@@ -26,7 +28,7 @@ use Rattle.am_tx.specs.Txs.{Txs, IsConsistent, with_log, txs_after_op}
 use Rattle.am_record.specs.ByNumber.{with_changed}
 use Rattle.am_record.proofs.ByNumber.{has_number-with_changed, of_number-kept}
 use Rattle.am_tx.specs.declared.transaction.Transaction.{Transaction}
-use Rattle.am_record.specs.Refusals.{refusal_before_lock, is_one_too_many, lock_refusal, or_else}
+use Rattle.am_record.specs.Refusals.{refusal_before_lock, is_load, is_one_too_many, lock_refusal, or_else}
 use Rattle.am_serial.specs.Trace.{runs_made}
 use Rattle.am_effect.specs.Laws.{taken_back}
 use Rattle.am_effect.specs.Store.{with_wish}
@@ -46,41 +48,42 @@ use Rattle.am_core.proofs.Actives.{actives-undid}
 -- ---- refusals that are due
 
 -- nothing is due before the lock
-pub record IsClear (active : Bool) (ops runs : ℕ) (op : Op) : Type 0 where
+pub record IsClear (active : Bool) (ops : ℕ) (full : Bool) (op : Op) : Type 0 where
   pub is_active : active ≡ true
   pub few : nat_le 4096 ops ≡ false
 
-pub cleared : (active : Bool) (ops runs : ℕ) (op : Op) → None ≡ refusal_before_lock active ops runs op →
-    IsClear active ops runs op
-cleared true ops runs op e = record { is_active = refl; few = by_test (nat_le 4096 ops) _ e }
+pub cleared : (active : Bool) (ops : ℕ) (full : Bool) (op : Op) → None ≡ refusal_before_lock active ops full op →
+    IsClear active ops full op
+cleared true ops full op e = record { is_active = refl; few = by_test (nat_le 4096 ops) _ e }
   where
     by_test : (b : Bool) (later : Option Refusal) → None ≡ cond b (Some TooManyOps) later → b ≡ false
     by_test true later e = cc
     by_test false later e = refl
-cleared false ops runs op e = cc
+cleared false ops full op e = cc
 
-module _ (parts : Partitions) (t : Txs) (wishes : List Interval) (commits tx : ℕ) (op : Op) where
-  p : StoreState
-  p = state_kept parts t wishes commits
+module _ (most_runs : ℕ) (parts : Partitions) (t : Txs) (wishes : List Interval) (commits tx : ℕ) (op : Op) where
+  -- whether no further run may be made
+  abbrev full : Bool
+  full = nat_le most_runs parts.runs || nat_le 65535 (runs_in parts.entries)
 
-  first_is : refusal_before_lock (is_active_in t.active tx) (ops_in t.active tx) parts.runs op ≡ refusal_before_lock
-      (is_in (actives t) tx) (in_table (actives t) tx).ops parts.runs op
+  first_is : refusal_before_lock (is_active_in t.active tx) (ops_in t.active tx) full op ≡ refusal_before_lock
+      (is_in (actives t) tx) (in_table (actives t) tx).ops full op
   first_is = λ i. refusal_before_lock (sym (is_in-actives (locks_owned t.locks) t.active tx) i)
-      (sym (ops-actives (locks_owned t.locks) t.active tx) i) parts.runs op
+      (sym (ops-actives (locks_owned t.locks) t.active tx) i) full op
 
   due_at : (first : Option Refusal) → first ≡ refusal_before_lock (is_active_in t.active tx) (ops_in t.active tx)
-      parts.runs op
-      → refusal_in (state_kept parts t wishes commits) tx op ≡ or_else first
+      full op
+      → refusal_in (state_kept most_runs parts t wishes commits) tx op ≡ or_else first
       (lock_refusal (blocker_in (actives t) tx (lock_of op))
       (is_one_too_many (in_table (actives t) tx).locks (lock_of op)))
   due_at first e = ap (λ (o : Option Refusal). or_else o
       (lock_refusal (blocker_in (actives t) tx (lock_of op))
       (is_one_too_many (in_table (actives t) tx).locks (lock_of op)))) (sym (e ∙ first_is))
 
-  due_then : None ≡ refusal_before_lock (is_active_in t.active tx) (ops_in t.active tx) parts.runs op →
-      refusal_in (state_kept parts t wishes commits) tx op ≡ lock_refusal_for t tx (lock_of op)
+  due_then : None ≡ refusal_before_lock (is_active_in t.active tx) (ops_in t.active tx) full op →
+      refusal_in (state_kept most_runs parts t wishes commits) tx op ≡ lock_refusal_for t tx (lock_of op)
   due_then e =
-      let a = (cleared (is_active_in t.active tx) (ops_in t.active tx) parts.runs op e).is_active in
+      let a = (cleared (is_active_in t.active tx) (ops_in t.active tx) full op e).is_active in
       due_at None e ∙ (λ i. lock_refusal (blocker_in (actives t) tx (lock_of op))
       (is_one_too_many (locks-actives (locks_owned t.locks) t.active tx a i) (lock_of op)))
 
@@ -89,7 +92,7 @@ module _ (parts : Partitions) (t : Txs) (wishes : List Interval) (commits tx : �
       ((reply ≡ Refused NoMemory) × (takes_memory op ≡ true))) (λ why. reply ≡ Refused why)
 
   pub says_first : (why : Refusal) → Some why ≡ refusal_before_lock (is_active_in t.active tx) (ops_in t.active tx)
-      parts.runs op → MayAnswer (state_kept parts t wishes commits) (Do tx op) (Refused why)
+      full op → MayAnswer (state_kept most_runs parts t wishes commits) (Do tx op) (Refused why)
   says_first why e = subst (Says (Refused why)) (sym (due_at (Some why) e)) refl
 
   -- ---- a refused lock
@@ -99,7 +102,7 @@ module _ (parts : Partitions) (t : Txs) (wishes : List Interval) (commits tx : �
   needs op own e = refl
 
   pub says_lock : (why : Refusal) → None ≡ refusal_before_lock (is_active_in t.active tx) (ops_in t.active tx)
-      parts.runs op → IsLockRefusal t tx (lock_of op) why → MayAnswer (state_kept parts t wishes commits) (Do tx op)
+      full op → IsLockRefusal t tx (lock_of op) why → MayAnswer (state_kept most_runs parts t wishes commits) (Do tx op)
       (Refused why)
   says_lock why e r = ⊎_elim
       (λ due. subst (Says (Refused why)) (sym (due_then e ∙ due)) refl)
@@ -113,16 +116,16 @@ module _ (parts : Partitions) (t : Txs) (wishes : List Interval) (commits tx : �
   never None false e = cc
 
   by_lock : adds_ninth_lock (in_table (actives t) tx).locks (lock_of op) ≡ true →
-      may_want_room (state_kept parts t wishes commits) (in_table (actives t) tx) op ≡ true
+      may_want_room (state_kept most_runs parts t wishes commits) (in_table (actives t) tx) op ≡ true
   by_lock e = or_left (adds_ninth_lock (in_table (actives t) tx).locks (lock_of op))
       (wants_room op parts.entries (in_table (actives t) tx).notes (in_table (actives t) tx).marks) e
 
   pub wants_lock : (why : Refusal) → None ≡ refusal_before_lock (is_active_in t.active tx) (ops_in t.active tx)
-      parts.runs op → IsLockRefusal t tx (lock_of op) why → Refused why ≡ Refused NoMemory
-      → may_want_room (state_kept parts t wishes commits) (in_table (actives t) tx) op ≡ true
+      full op → IsLockRefusal t tx (lock_of op) why → Refused why ≡ Refused NoMemory
+      → may_want_room (state_kept most_runs parts t wishes commits) (in_table (actives t) tx) op ≡ true
   wants_lock why e r is =
       let same : why ≡ NoMemory = cc in
-      let a = (cleared (is_active_in t.active tx) (ops_in t.active tx) parts.runs op e).is_active in
+      let a = (cleared (is_active_in t.active tx) (ops_in t.active tx) full op e).is_active in
       ⊎_elim
       (λ due. absurd (never (blocker_in (actives t) tx (lock_of op))
       (is_one_too_many (locks_owned t.locks tx) (lock_of op)) (due ∙ ap Some same)))
@@ -137,13 +140,14 @@ module _ (parts : Partitions) (t : Txs) (wishes : List Interval) (commits tx : �
   room_needs op log w = refl
 
   pub says_room : (parts' : Partitions) (log : Log) → None ≡ refusal_before_lock (is_active_in t.active tx)
-      (ops_in t.active tx) parts.runs op → lock_refusal_for t tx (lock_of op) ≡ None
-      → MayWantRoom op parts.entries log → MayAnswer (state_kept parts t wishes commits) (Do tx op) (Refused NoMemory)
+      (ops_in t.active tx) full op → lock_refusal_for t tx (lock_of op) ≡ None
+      → MayWantRoom op parts.entries log → MayAnswer (state_kept most_runs parts t wishes commits) (Do tx op)
+      (Refused NoMemory)
   says_room parts' log e due w = subst (Says (Refused NoMemory)) (sym (due_then e ∙ due))
       (inr (refl, room_needs op log w))
 
   pub wants_memory : (log : Log) → log ≡ log_in t.active tx → MayWantRoom op parts.entries log →
-      may_want_room (state_kept parts t wishes commits) (in_table (actives t) tx) op ≡ true
+      may_want_room (state_kept most_runs parts t wishes commits) (in_table (actives t) tx) op ≡ true
   wants_memory log e w =
       let notes = ap (λ (l : Log). l.notes) e ∙ sym (notes-actives (locks_owned t.locks) t.active tx) in
       let marks = ap (λ (l : Log). l.marks) e ∙ sym (marks-actives (locks_owned t.locks) t.active tx) in
@@ -154,14 +158,16 @@ module _ (parts : Partitions) (t : Txs) (wishes : List Interval) (commits tx : �
   pub idle : (t1 t2 t3 : Txs) (parts' : Partitions) (held : ℕ) → IsConsistent t →
       HasLocks t tx (with_asked (locks_owned t.locks tx) (lock_of op)) t1 → LeavesAllAlone parts t1 tx parts' t2
       → held ≡ length (locks_owned t.locks tx) → t3 ≡ record t2
-      { locks = with_locks t2.locks tx (take held (locks_owned t2.locks tx)) } → state_kept parts' t3 wishes commits ≡
-      state_kept parts t wishes commits
+      { locks = with_locks t2.locks tx (take held (locks_owned t2.locks tx)) } → state_kept most_runs parts' t3 wishes
+      commits ≡
+      state_kept most_runs parts t wishes commits
   idle t1 t2 t3 parts' held ok has stays before cut =
       let notes = stays.untouched.notes ∙ (λ i. (log_in (has.active i) tx).notes) in
       let marks = stays.untouched.marks ∙ (λ i. (log_in (has.active i) tx).marks) in
       let same = actives-undid t t1 t2 t3 tx held (lock_of op) stays.log ok has stays.written before cut notes marks in
       let begun : t3.begun ≡ t.begun = (λ i. (cut i).begun) ∙ (λ i. (stays.written i).begun) ∙ has.begun in
       λ i. record {
+        most_runs = most_runs;
         entries = stays.untouched.entries i;
         wishes = wishes;
         begun = begun i;
@@ -197,14 +203,18 @@ module _ (parts : Partitions) (t : Txs) (wishes : List Interval) (commits tx : �
   answered Back marks m = answered_or (has_mark marks) Done NoMark tt tt
   answered op marks m = tt
 
-  done_by : (reply : Reply) → IsAnswer reply → state_after_op (state_kept parts t wishes commits) tx op reply ≡ record {
-    entries = changed (taken_back_to_mark (state_kept parts t wishes commits) tx) parts.runs op reply parts.entries;
-    wishes = with_wish wishes (wished op reply);
-    begun = t.begun;
-    commits = commits;
-    runs = parts.runs + runs_made op reply;
-    active = with_changed (λ x. x.number) (with_op op reply (noted parts.runs op reply parts.entries)) tx (actives t);
-  }
+  done_by : (reply : Reply) → IsAnswer reply → state_after_op (state_kept most_runs parts t wishes commits) tx op
+      reply ≡ record {
+        most_runs = most_runs;
+        entries = changed (taken_back_to_mark (state_kept most_runs parts t wishes commits) tx) parts.runs op reply
+            parts.entries;
+        wishes = with_wish wishes (wished op reply);
+        begun = t.begun;
+        commits = commits;
+        runs = parts.runs + runs_made op reply;
+        active = with_changed (λ x. x.number) (with_op op reply (noted parts.runs op reply parts.entries)) tx
+            (actives t);
+      }
   done_by (Refused why) h = absurd h
   done_by reply h = refl
 
@@ -217,9 +227,9 @@ module _ (parts : Partitions) (t : Txs) (wishes : List Interval) (commits tx : �
   wished_is op marks m = refl
 
   pub says_done : (t1 t2 : Txs) (parts' : Partitions) (reply : Reply) →
-      None ≡ refusal_before_lock (is_active_in t.active tx) (ops_in t.active tx) parts.runs op →
+      None ≡ refusal_before_lock (is_active_in t.active tx) (ops_in t.active tx) full op →
       IsLockGranted t tx (lock_of op) t1
-      → Works op reply parts t1 tx parts' t2 → MayAnswer (state_kept parts t wishes commits) (Do tx op) reply
+      → Works op reply parts t1 tx parts' t2 → MayAnswer (state_kept most_runs parts t wishes commits) (Do tx op) reply
   says_done t1 t2 parts' reply e grant w =
       let marks = (λ i. (log_in (grant.locks.active i) tx).marks) ∙
       sym (marks-actives (locks_owned t.locks) t.active tx) in
@@ -229,7 +239,8 @@ module _ (parts : Partitions) (t : Txs) (wishes : List Interval) (commits tx : �
   pub after_done : (t1 t2 t3 : Txs) (parts' : Partitions) (wishes' : List Interval) (reply : Reply) → IsConsistent t →
       HasLocks t tx (with_asked (locks_owned t.locks tx) (lock_of op)) t1
       → Works op reply parts t1 tx parts' t2 → t3 ≡ txs_after_op t2 tx → wishes' ≡ with_wish wishes (wish_of op)
-      → state_kept parts' t3 wishes' commits ≡ state_after_op (state_kept parts t wishes commits) tx op reply
+      → state_kept most_runs parts' t3 wishes' commits ≡ state_after_op (state_kept most_runs parts t wishes commits) tx
+      op reply
   after_done t1 t2 t3 parts' wishes' reply ok has w count wish =
       let log : log_in t1.active tx ≡ log_in t.active tx = λ i. log_in (has.active i) tx in
       let notes = w.done.notes ∙ (λ i. noted parts.runs op reply parts.entries ++
@@ -248,6 +259,7 @@ module _ (parts : Partitions) (t : Txs) (wishes : List Interval) (commits tx : �
       (content parts.entries))) in
       let is = subst IsAnswer (sym w.done.said) (answered op (log_in t1.active tx).marks (content parts.entries)) in
       (λ i. record {
+        most_runs = most_runs;
         entries = es i;
         wishes = ws i;
         begun = begun i;
@@ -255,6 +267,33 @@ module _ (parts : Partitions) (t : Txs) (wishes : List Interval) (commits tx : �
         runs = w.done.runs i;
         active = all i;
       }) ∙ sym (done_by reply is)
+
+-- ---- a run may be made
+
+-- where one may be, there is a number for it
+pub has_number : (active : Bool) (ops most_runs runs open_runs : ℕ) (op : Op) → most_runs ≤ 4294967294 →
+    None ≡ refusal_before_lock active ops (nat_le most_runs runs || nat_le 65535 open_runs) op →
+    (is_load op && nat_le 4294967294 runs) ≡ false
+has_number active ops most_runs runs open_runs op few none = ⊎_elim
+    (λ yes. let made : nat_le most_runs runs ≡ true = le-leb most_runs runs
+    (omega (arith, few, leb-true 4294967294 runs yes)) in
+    ap (λ b. is_load op && b) (yes ∙ sym (or_left (nat_le most_runs runs) (nat_le 65535 open_runs) made)) ∙
+    no_load _ _ _ _ (is_load op && (nat_le most_runs runs || nat_le 65535 open_runs)) none)
+    (λ no. ap (λ b. is_load op && b) no ∙ and_no (is_load op))
+    (cases_Bool (nat_le 4294967294 runs))
+  where
+    and_no : (b : Bool) → (b && false) ≡ false
+    and_no true = refl
+    and_no false = refl
+
+    no_load : (a b c d load : Bool) → None ≡ cond a (Some NoSuchTx) (cond b (Some TooManyOps)
+        (cond c (Some NotRising) (cond d (Some BadLimit) (cond load (Some TooManyRuns) None)))) → load ≡ false
+    no_load true b c d load e = absurd (cc)
+    no_load false true c d load e = absurd (cc)
+    no_load false false true d load e = absurd (cc)
+    no_load false false false true load e = absurd (cc)
+    no_load false false false false true e = absurd (cc)
+    no_load false false false false false e = refl
 
 -- ---- it stays active, with few operations
 

@@ -23,7 +23,7 @@ use Rattle.am_serial.specs.Trace.{Trace}
 use Rattle.am_effect.specs.MergeAnswers.{all_worked_off, candidates, MergeRight, AnswersFirst, AnswersCandidates}
 use Rattle.am_effect.specs.MergeAnswers.{CleanRight}
 use Rattle.am_sound.specs.Represents.{stored_answer}
-use Rattle.am_sound.specs.StoreState.{StoreState, Active, MayAnswer, state_after, refusal_in, in_table}
+use Rattle.am_sound.specs.StoreState.{StoreState, Active, MayAnswer, state_after, state_after_op, refusal_in, in_table}
 use Rattle.am_sound.specs.StoreState.{newcomer, with_op, takes_memory, holder_in}
 use Rattle.am_sound.specs.StateOf.{IsStateOf}
 use Rattle.am_core.specs.StoreContent.{IsReached, state_kept, active_with}
@@ -69,18 +69,35 @@ refused_stays p (Merge limit) why = λ i. record p {
 }
 refused_stays p step why = refl
 
+-- ---- the greatest number of runs
+
+most_did : (p : StoreState) (t : ℕ) (op : Op) (reply : Reply) → (state_after_op p t op reply).most_runs ≡ p.most_runs
+most_did p t op (Refused why) = refl
+most_did p t op reply = refl
+
+pub most_kept : (p : StoreState) (step : Step) (reply : Reply) → (state_after p step reply).most_runs ≡ p.most_runs
+most_kept p Begin (Begun t) = refl
+most_kept p (Do t op) reply = most_did p t op reply
+most_kept p (Commit t) (Committed c) = refl
+most_kept p (Abort t) Aborted = refl
+most_kept p (Merge limit) reply = refl
+most_kept p (Clean range limit) reply = refl
+most_kept p step reply = refl
+
 -- ---- numbers
 
 -- commits and active transactions are no more than were begun
 pub record IsCounted (p : StoreState) : Type 0 where
   pub counted : p.commits + length p.active ≤ p.begun
   pub few_begun : p.begun ≤ 2 ^ 63
+  pub few_runs : p.most_runs ≤ 4294967294
 
 pub counts : (p : StoreState) (step : Step) (reply : Reply) → IsCounted p → MayAnswer p step reply →
     IsCounted (state_after p step reply)
 counts p Begin (Begun t) c says = record {
   counted = omega (arith, c.counted, length-append p.active (newcomer t ∷ []));
   few_begun = omega (arith, says.2);
+  few_runs = c.few_runs;
 }
 counts p Begin (Refused why) c says = c
 counts p Begin reply c says = absurd says
@@ -92,21 +109,32 @@ counts p (Do t op) reply c says = record {
     length-map p.active (λ (x : Active). cond (x.number == t) (with_op op reply (noted p.runs op reply p.entries) x) x),
   );
   few_begun = c.few_begun;
+  few_runs = c.few_runs;
 }
 counts p (Commit t) (Committed n) c says = record {
   counted = omega (arith, c.counted, length-without_one (λ (x : Active). x.number) t p.active says.0);
   few_begun = c.few_begun;
+  few_runs = c.few_runs;
 }
 counts p (Commit t) (Refused why) c says = c
 counts p (Commit t) reply c says = absurd says
 counts p (Abort t) Aborted c says = record {
   counted = omega (arith, c.counted, length-without_number (λ (x : Active). x.number) t p.active);
   few_begun = c.few_begun;
+  few_runs = c.few_runs;
 }
 counts p (Abort t) (Refused why) c says = c
 counts p (Abort t) reply c says = absurd says
-counts p (Merge limit) reply c says = record { counted = c.counted; few_begun = c.few_begun }
-counts p (Clean range limit) reply c says = record { counted = c.counted; few_begun = c.few_begun }
+counts p (Merge limit) reply c says = record {
+  counted = c.counted;
+  few_begun = c.few_begun;
+  few_runs = c.few_runs;
+}
+counts p (Clean range limit) reply c says = record {
+  counted = c.counted;
+  few_begun = c.few_begun;
+  few_runs = c.few_runs;
+}
 
 -- ---- the store's invariant
 
@@ -115,17 +143,18 @@ pub reaches : (p p' : StoreState) (step : Step) (reply : Reply) →
     (state_after p step reply))
     → IsReached p → MayAnswer p step reply → p' ≡ state_after p step reply → IsReached p'
 reaches p p' step reply lift r says e =
-    let c = counts p step reply (record { counted = r.counted; few_begun = r.few_begun }) says in
+    let c = counts p step reply (record { counted = r.counted; few_begun = r.few_begun; few_runs = r.few_runs }) says in
     subst (λ (q : StoreState). IsReached q) (sym e) (record {
       trace = r.trace ++ (step, reply) ∷ [];
       at = lift r.trace r.at says;
       counted = c.counted;
       few_begun = c.few_begun;
+      few_runs = c.few_runs;
     })
 
-pub few_commits : (parts : Partitions) (t : Txs) (wishes : List Interval) (commits : ℕ) →
-    IsReached (state_kept parts t wishes commits) → commits + length t.active ≤ 2 ^ 63
-few_commits parts t wishes commits r = omega (
+pub few_commits : (most_runs : ℕ) (parts : Partitions) (t : Txs) (wishes : List Interval) (commits : ℕ) →
+    IsReached (state_kept most_runs parts t wishes commits) → commits + length t.active ≤ 2 ^ 63
+few_commits most_runs parts t wishes commits r = omega (
   arith,
   r.counted,
   r.few_begun,

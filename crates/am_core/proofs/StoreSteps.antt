@@ -1,5 +1,5 @@
 -- Where a store stands after its steps.
-use Rattle.std.proofs.Common.{◌≡◌, ◌++◌, List, [], ◌∷◌, length, refl, sym, ap, ◌∙◌, subst, arith, append_assoc}
+use Rattle.std.proofs.Common.{◌≡◌, ◌++◌, ℕ, List, [], ◌∷◌, length, refl, sym, ap, ◌∙◌, subst, arith, append_assoc}
 use Rattle.std.proofs.Common.{length-append}
 use Rattle.std.proofs.lemmas.List.{append-nil}
 use Rattle.am_record.specs.declared.step.Refusal.{Refusal}
@@ -12,18 +12,19 @@ use Rattle.am_sound.specs.Right.{IsSoundStore}
 use Rattle.am_sound.specs.StoreState.{StoreState, MayAnswer, state_after, empty_state}
 use Rattle.am_sound.specs.StateOf.{IsStateOf, events}
 use Rattle.am_core.specs.StoreSteps.{IsSoundAt, Extends, IsWithin, IsOwed, TakesEach, HasRun}
-use Rattle.am_core.proofs.StepsKeep.{refused_stays, within_do, within_merge}
+use Rattle.am_core.proofs.StepsKeep.{most_kept, refused_stays, within_do, within_merge}
 
 abbrev pub Lifts : Type 0
 Lifts = (trace : Trace) (p : StoreState) (step : Step) (reply : Reply) → IsStateOf trace p → MayAnswer p step reply →
     IsStateOf (trace ++ (step, reply) ∷ []) (state_after p step reply)
 
 abbrev pub Sounds : Type 0
-Sounds = (trace : Trace) (p : StoreState) → IsStateOf trace p → IsSoundStore trace
+Sounds = (trace : Trace) (p : StoreState) → IsStateOf trace p → IsSoundStore p.most_runs trace
 
 pub goes : (p p' : StoreState) (step : Step) (reply : Reply) → Lifts → Sounds → MayAnswer p step reply →
     p' ≡ state_after p step reply → Extends p ((step, reply) ∷ []) p'
 goes p p' step reply lift sound says e = record {
+  most = ap (λ (q : StoreState). q.most_runs) e ∙ most_kept p step reply;
   on = λ trace at.
       let next : IsStateOf (trace ++ (step, reply) ∷ []) p' =
       subst (λ (q : StoreState). IsStateOf (trace ++ (step, reply) ∷ []) q) (sym e)
@@ -44,6 +45,7 @@ within p step reply says = tt
 
 pub goes_nowhere : (p : StoreState) → Sounds → Extends p [] p
 goes_nowhere p sound = record {
+  most = refl;
   on = λ trace at. let here : IsStateOf (trace ++ []) p = subst
       (λ (t : Trace). IsStateOf t p) (sym (append-nil trace)) at in
       record { at = here; sound = sound (trace ++ []) p here };
@@ -52,6 +54,7 @@ goes_nowhere p sound = record {
 pub goes_further : (p q r : StoreState) (more last : Trace) → Extends p more q → Extends q last r →
     Extends p (more ++ last) r
 goes_further p q r more last a b = record {
+  most = b.most ∙ a.most;
   on = λ trace at. subst (λ (t : Trace). IsSoundAt t r)
       (append_assoc trace more last) (b.on (trace ++ more) (a.on trace at).at);
 }
@@ -65,8 +68,10 @@ events-push (s ∷ steps) [] step reply h = absurd (omega arith)
 events-push (s ∷ steps) (r ∷ replies) step reply h = let h' : length steps ≡ length replies = omega arith in
     ap (λ (es : Trace). (s, r) ∷ es) (events-push steps replies step reply h')
 
-pub stands_opened : (p : StoreState) → IsStateOf [] empty_state → Sounds → p ≡ empty_state → IsSoundAt [] p
-stands_opened p at sound is = let here : IsStateOf [] p = subst (λ (q : StoreState). IsStateOf [] q) (sym is) at in
+pub stands_opened : (most_runs : ℕ) (p : StoreState) → IsStateOf [] (empty_state most_runs) → Sounds →
+    p ≡ empty_state most_runs → IsSoundAt [] p
+stands_opened most_runs p at sound is = let here : IsStateOf [] p = subst (λ (q : StoreState). IsStateOf [] q) (sym is)
+    at in
     record { at = here; sound = sound [] p here }
 
 -- ---- what each step owes

@@ -33,15 +33,18 @@ number_is : (b : Bool) (n tx : ℕ) → Some tx ≡ cond b (Some n) None → (b 
 number_is true n tx e = (refl, cc)
 number_is false n tx e = cc
 
-pub begun : (parts : Partitions) (t : Txs) (wishes : List Interval) (commits : ℕ) (t' : Txs) (tx : ℕ) → IsConsistent t
+pub begun : (most_runs : ℕ) (parts : Partitions) (t : Txs) (wishes : List Interval) (commits : ℕ) (t' : Txs) (tx : ℕ) →
+    IsConsistent t
     → Some tx ≡ cond (can_begin t) (Some (t.begun + 1)) None → t' ≡ cond (can_begin t) (txs_after_begin t) t
-    → state_kept parts t' wishes commits ≡ state_after (state_kept parts t wishes commits) Begin (Begun tx)
-begun parts t wishes commits t' tx ok number e =
+    → state_kept most_runs parts t' wishes commits ≡ state_after (state_kept most_runs parts t wishes commits) Begin
+    (Begun tx)
+begun most_runs parts t wishes commits t' tx ok number e =
     let is = number_is (can_begin t) (t.begun + 1) tx number in
     let now : t' ≡ txs_after_begin t = e ∙ cond-true (can_begin t) (txs_after_begin t) t is.0 in
     let all = actives-txs_after_begin t (next-is-new t ok) ∙ ap (λ n. actives t ++ newcomer n ∷ []) (sym is.1) in
-    (λ i. state_kept parts (now i) wishes commits)
+    (λ i. state_kept most_runs parts (now i) wishes commits)
     ∙ (λ i. record {
+      most_runs = most_runs;
       entries = parts.entries;
       wishes = wishes;
       begun = t.begun + 1;
@@ -52,13 +55,16 @@ begun parts t wishes commits t' tx ok number e =
 
 -- ---- commit
 
-pub committed : (parts : Partitions) (t : Txs) (wishes : List Interval) (commits : ℕ) (t' : Txs) (tx c : ℕ) →
+pub committed : (most_runs : ℕ) (parts : Partitions) (t : Txs) (wishes : List Interval) (commits : ℕ) (t' : Txs)
+    (tx c : ℕ) →
     t' ≡ txs_after_end t tx
-    → state_kept parts t' wishes (commits + 1) ≡ state_after (state_kept parts t wishes commits) (Commit tx)
+    → state_kept most_runs parts t' wishes (commits + 1) ≡ state_after (state_kept most_runs parts t wishes commits)
+    (Commit tx)
     (Committed c)
-committed parts t wishes commits t' tx c e =
-    (λ i. state_kept parts (e i) wishes (commits + 1))
+committed most_runs parts t wishes commits t' tx c e =
+    (λ i. state_kept most_runs parts (e i) wishes (commits + 1))
     ∙ (λ i. record {
+      most_runs = most_runs;
       entries = parts.entries;
       wishes = wishes;
       begun = t.begun;
@@ -69,17 +75,17 @@ committed parts t wishes commits t' tx c e =
 
 -- ---- abort
 
-pub can_abort : (parts : Partitions) (t : Txs) (wishes : List Interval) (commits tx : ℕ) →
-    IsFit (state_kept parts t wishes commits) → is_active_in t.active tx ≡ true
+pub can_abort : (most_runs : ℕ) (parts : Partitions) (t : Txs) (wishes : List Interval) (commits tx : ℕ) →
+    IsFit (state_kept most_runs parts t wishes commits) → is_active_in t.active tx ≡ true
     → CanTakeBack (log_in t.active tx).notes (find parts.entries)
-can_abort parts t wishes commits tx fit a =
+can_abort most_runs parts t wishes commits tx fit a =
     subst (λ (ns : List Note). CanTakeBack ns (find parts.entries)) (notes-actives (locks_owned t.locks) t.active tx)
     (fit.can_abort tx (is_in-inner t tx true a))
 
-pub can_back : (parts : Partitions) (t : Txs) (wishes : List Interval) (commits tx : ℕ) →
-    IsFit (state_kept parts t wishes commits) → is_active_in t.active tx ≡ true
+pub can_back : (most_runs : ℕ) (parts : Partitions) (t : Txs) (wishes : List Interval) (commits tx : ℕ) →
+    IsFit (state_kept most_runs parts t wishes commits) → is_active_in t.active tx ≡ true
     → CanTakeBack (since_mark (log_in t.active tx).marks (log_in t.active tx).notes) (find parts.entries)
-can_back parts t wishes commits tx fit a =
+can_back most_runs parts t wishes commits tx fit a =
     subst (λ (ms : List ℕ). CanTakeBack (since_mark ms (log_in t.active tx).notes) (find parts.entries))
     (marks-actives (locks_owned t.locks) t.active tx)
     (subst (λ (ns : List Note). CanTakeBack (since_mark (in_table (actives t) tx).marks ns) (find parts.entries))
@@ -97,17 +103,20 @@ still_active t t' tx new a = (λ i. is_active_in (new.written i).active tx) ∙
     has_number-with_changed (λ (x : Transaction). x.number) (λ x. record x { log = new.log }) tx (λ x. refl) t.active
     tx ∙ a
 
-pub aborted : (parts : Partitions) (t : Txs) (wishes : List Interval) (commits : ℕ) (parts' : Partitions) (t' t'' : Txs)
+pub aborted : (most_runs : ℕ) (parts : Partitions) (t : Txs) (wishes : List Interval) (commits : ℕ)
+    (parts' : Partitions) (t' t'' : Txs)
     (tx : ℕ)
     → HasNewLog t tx t' → t'' ≡ txs_after_end t' tx → parts'.entries ≡ taken_back (log_in t.active tx).notes
     parts.entries → parts'.runs ≡ parts.runs
-    → state_kept parts' t'' wishes commits ≡ state_after (state_kept parts t wishes commits) (Abort tx) Aborted
-aborted parts t wishes commits parts' t' t'' tx new e entries runs =
+    → state_kept most_runs parts' t'' wishes commits ≡ state_after (state_kept most_runs parts t wishes commits)
+    (Abort tx) Aborted
+aborted most_runs parts t wishes commits parts' t' t'' tx new e entries runs =
     let gone : t'' ≡ txs_after_end t tx = e ∙ (λ i. txs_after_end (new.written i) tx) ∙
     txs_after_end-with_log t tx new.log in
     let back = entries ∙ ap (λ (ns : List Note). taken_back ns parts.entries)
     (sym (notes-actives (locks_owned t.locks) t.active tx)) in
     (λ i. record {
+      most_runs = most_runs;
       entries = back i;
       wishes = wishes;
       begun = (gone i).begun;
@@ -116,6 +125,7 @@ aborted parts t wishes commits parts' t' t'' tx new e entries runs =
       active = actives (gone i);
     })
     ∙ (λ i. record {
+      most_runs = most_runs;
       entries = taken_back (in_table (actives t) tx).notes parts.entries;
       wishes = wishes;
       begun = t.begun;

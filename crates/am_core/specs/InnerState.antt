@@ -5,7 +5,7 @@ use Rattle.am_core.specs.StoreContent.{actives, state_kept}
 use Rattle.am_core.specs.Rooms.{HaveTheirRoom}
 
 abbrev pub inner_state : {I : Type 0} → Inner I → StoreState
-inner_state k = state_kept k.parts k.txs k.wishes k.commits
+inner_state k = state_kept k.most_runs k.parts k.txs k.wishes k.commits
 
 -- its values, and those that its transactions noted, have room
 abbrev pub HasRooms : {I : Type 0} → Inner I → Type 0

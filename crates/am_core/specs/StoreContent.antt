@@ -2,7 +2,7 @@
 use Rattle.std.specs.Prelude.{ℕ, ◌+◌, ◌≤◌, length, List, map, refl}
 use Rattle.std.specs.Coded.{Coded, code_by, coded×, coded_ℕ, coded_list}
 use Rattle.am_record.specs.Interval.{Interval, interval_code}
-use Rattle.am_record.specs.Limits.{max_begun}
+use Rattle.am_record.specs.Limits.{last_run, max_begun}
 use Rattle.am_record.specs.declared.lock.Lock.{Lock}
 use Rattle.am_record.specs.contracts.lock.Lock as lock
 use Rattle.am_record.specs.declared.entry.Entry.{Entry}
@@ -31,9 +31,10 @@ active_with locks x = record {
 abbrev pub actives : Txs → List Active
 actives txs = map (active_with (locks_owned txs.locks)) txs.active
 
--- what is kept, by its parts
-abbrev pub state_kept : Partitions → Txs → List Interval → ℕ → StoreState
-state_kept parts txs wishes commits = record {
+-- what is kept, by its parts, of a store that makes so many runs at most
+abbrev pub state_kept : ℕ → Partitions → Txs → List Interval → ℕ → StoreState
+state_kept most_runs parts txs wishes commits = record {
+  most_runs = most_runs;
   entries = parts.entries;
   wishes = wishes;
   begun = txs.begun;
@@ -54,26 +55,28 @@ active_code =
     (λ f. record { number = f.0.0; ops = f.0.1; locks = f.1.0; notes = f.1.1.0; marks = f.1.1.1 }) (λ _. refl)
 
 abbrev pub StateFields : Type 0
-StateFields = (List Entry × List Interval) × ((ℕ × ℕ) × (ℕ × List Active))
+StateFields = (List Entry × List Interval) × ((ℕ × ℕ) × ((ℕ × ℕ) × List Active))
 
 abbrev pub state_code : Coded StoreState
 state_code =
     code_by StateFields (coded× (coded× entries_code (coded_list interval_code))
-    (coded× (coded× coded_ℕ coded_ℕ) (coded× coded_ℕ (coded_list active_code))))
-    (λ p. ((p.entries, p.wishes), ((p.begun, p.commits), (p.runs, p.active))))
+    (coded× (coded× coded_ℕ coded_ℕ) (coded× (coded× coded_ℕ coded_ℕ) (coded_list active_code))))
+    (λ p. ((p.entries, p.wishes), ((p.begun, p.commits), ((p.most_runs, p.runs), p.active))))
     (λ f. record {
+      most_runs = f.1.1.0.0;
       entries = f.0.0;
       wishes = f.0.1;
       begun = f.1.0.0;
       commits = f.1.0.1;
-      runs = f.1.1.0;
+      runs = f.1.1.0.1;
       active = f.1.1.1;
     }) (λ _. refl)
 
 -- some steps and replies lead there, from an empty store; and there were no more commits than transactions begun that
--- aren't active any more
+-- aren't active any more; it doesn't make more runs than there are numbers for
 pub record IsReached (p : StoreState) : Type 0 where
   pub trace : Trace
   pub at : IsStateOf trace p
   pub counted : p.commits + length p.active ≤ p.begun
   pub few_begun : p.begun ≤ max_begun
+  pub few_runs : p.most_runs ≤ last_run

@@ -17,10 +17,11 @@ use Rattle.am_core.specs.Memory.{may_want_memory}
 -- the trace is sound, and the store is where it leaves it
 pub record IsSoundAt (trace : Trace) (p : StoreState) : Type 0 where
   pub at : IsStateOf trace p
-  pub sound : IsSoundStore trace
+  pub sound : IsSoundStore p.most_runs trace
 
--- wherever the store stood before, it stands there with these steps and replies added
+-- wherever the store stood before, it stands there with these steps and replies added, and makes as many runs at most
 pub record Extends (old : StoreState) (more : Trace) (new : StoreState) : Type 0 where
+  pub most : new.most_runs ≡ old.most_runs
   pub on : (trace : Trace) → IsStateOf trace old → IsSoundAt (trace ++ more) new
 
 -- no more rows than asked for, and no more moves than may be made at once

@@ -1,6 +1,7 @@
 //! What comes before an operation: the refusal that is due, and its lock.
 
-ghost use Rattle.std.specs.Prelude.{◌≡◌, true, length, IfOk, IfErr, OnOk, OnErr};
+ghost use Rattle.std.specs.Prelude.{◌≡◌, ◌||◌, nat_le, true, length, IfOk, IfErr, OnOk, OnErr};
+ghost use Rattle.am_parts.specs.Catalogs.{runs_in};
 ghost use Rattle.am_locks.specs.Table.{locks_owned};
 ghost use Rattle.am_tx.specs.Active.{is_active_in, ops_in};
 ghost use Rattle.am_record.specs.Refusals.{refusal_before_lock};
@@ -9,23 +10,31 @@ ghost use Rattle.am_core.specs.Admission.{IsLockRefusal, IsLockGranted, wish_of}
 use am_index::PartIndex;
 use am_locks::Asked;
 use am_parts::Parts;
-use am_record::{Lock, Op, Range, Refusal};
+use am_record::{Lock, MAX_RUNS, Op, Range, Refusal};
 use am_tx::TxTable;
 
-/// The refusal that is due before a lock is asked for.
+/// The refusal that is due before a lock is asked for, where so many runs may be made in all.
 #[inline(never)]
 pub(crate) fn refusal<I: PartIndex + Drop>(
     parts: &Parts<I>,
+    most_runs: u32,
     txs: &TxTable,
     tx: u64,
     op: &Op,
 ) -> Option<Refusal>
-    ensures { result ≡ refusal_before_lock (is_active_in txs.now.active tx)
-        (ops_in txs.now.active tx) parts.now.runs op.now }
+    ensures { result ≡ refusal_before_lock (is_active_in txs.now.active tx) (ops_in txs.now.active tx)
+        (nat_le most_runs parts.now.runs || nat_le 65535 (runs_in parts.now.entries)) op.now }
 {
     let is_active = txs.is_active(tx);
     let ops = if is_active { txs.ops(tx) } else { 0 };
-    op.refusal(is_active, ops, parts.runs())
+    op.refusal(is_active, ops, has_all_runs(parts, most_runs))
+}
+
+// Whether no further run may be made: as many were made as may be, or 65,535 have entries.
+fn has_all_runs<I: PartIndex + Drop>(parts: &Parts<I>, most_runs: u32) -> bool
+    ensures { result ≡ (nat_le most_runs parts.now.runs || nat_le 65535 (runs_in parts.now.entries)) }
+{
+    parts.runs() >= most_runs || parts.open_runs() >= MAX_RUNS as usize
 }
 
 /// Asks for the lock, if there is one, and answers how many locks the transaction held before.

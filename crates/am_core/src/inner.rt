@@ -15,7 +15,7 @@ use am_record::{Reply, Step};
 use am_tx::TxTable;
 use std::alloc::Global;
 
-/// The partitions, the active transactions, the wishes and the number of commits.
+/// The partitions, the active transactions, the wishes, the number of commits, and how many runs may be made in all.
 #[derive(Drop)]
 pub(crate) struct Inner<I: PartIndex + Drop> {
     pub(crate) alloc: Global,
@@ -23,6 +23,7 @@ pub(crate) struct Inner<I: PartIndex + Drop> {
     pub(crate) txs: TxTable,
     pub(crate) wishes: Wishes,
     pub(crate) commits: u64,
+    pub(crate) most_runs: u32,
 }
 
 impl<I: PartIndex + Drop> Inner<I> {
@@ -31,6 +32,7 @@ impl<I: PartIndex + Drop> Inner<I> {
         requires fit { IsFit (inner_state self.old) }
         requires few { self.old.commits + length self.old.txs.active ≤ 2 ^ 63 }
         requires room { HasRooms self.old }
+        requires runs { self.old.most_runs ≤ 4294967294 }
         ensures says { MayAnswer (inner_state self.old) step result }
         ensures after { inner_state self.new ≡ state_after (inner_state self.old) step result }
         ensures memory { result ≡ Reply.Refused NoMemory → may_want_memory (inner_state self.old) step ≡ true }

@@ -1,6 +1,6 @@
 //! One operation of a transaction.
 
-ghost use Rattle.std.specs.Prelude.{◌≡◌, true, false, ◌&&◌, nat_le, IfOk, OnErr};
+ghost use Rattle.std.specs.Prelude.{◌≡◌, ◌≤◌, true, false, ◌&&◌, nat_le, IfOk, OnErr};
 ghost use Rattle.am_record.specs.Plain.{is_orderly};
 ghost use Rattle.am_record.specs.declared.step.Step.TheVariants.{Do};
 ghost use Rattle.am_record.specs.declared.step.Refusal.TheVariants.{NoMemory as OutOfMemory};
@@ -35,6 +35,7 @@ impl<I: PartIndex + Drop> Inner<I> {
     pub(crate) fn operate(&mut self, tx: u64, op: Op) -> Reply
         requires fit { IsFit (inner_state self.old) }
         requires room { HasRooms self.old }
+        requires runs { self.old.most_runs ≤ 4294967294 }
         ensures says { MayAnswer (inner_state self.old) (Do tx op) result }
         ensures after { inner_state self.new ≡ state_after (inner_state self.old) (Do tx op) result }
         ensures memory { result ≡ Reply.Refused OutOfMemory → may_want_memory (inner_state self.old) (Do tx op) ≡ true }
@@ -43,7 +44,7 @@ impl<I: PartIndex + Drop> Inner<I> {
         am_index::runs_follow();
         // Each call below then finds it without a search.
         self.txs.seek(tx);
-        if let Some(why) = refusal(&self.parts, &self.txs, tx, &op) {
+        if let Some(why) = refusal(&self.parts, self.most_runs, &self.txs, tx, &op) {
             return Reply::Refused(why);
         }
         let held = match ask(&mut self.txs, tx, op.asked_lock()) {
@@ -80,7 +81,7 @@ fn work<I: PartIndex + Drop>(
 ) -> Result<Reply, NoMemory>
     requires active { is_active_in txs.old.active tx ≡ true }
     requires orderly { is_orderly op ≡ true }
-    requires room { (is_load op && nat_le 65535 parts.old.runs) ≡ false }
+    requires room { (is_load op && nat_le 4294967294 parts.old.runs) ≡ false }
     requires above { NothingAbove parts.old.runs parts.old.entries }
     requires back { CanTakeBack (since_mark (log_in txs.old.active tx).marks (log_in txs.old.active tx).notes)
         (find parts.old.entries) }

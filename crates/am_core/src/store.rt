@@ -16,7 +16,7 @@ use crate::inner::Inner;
 use am_index::PartIndex;
 use am_merge::Wishes;
 use am_parts::{Figures, Parts};
-use am_record::{Entry, HashKey, Key, NoMemory, Reply, Step};
+use am_record::{Entry, HashKey, Key, MAX_RUNS, NoMemory, Reply, Step};
 use am_tx::TxTable;
 use std::alloc::Global;
 use std::marker::Model;
@@ -50,26 +50,46 @@ impl<I: PartIndex + Drop> Model for Store<I> {
 }
 
 impl<I: PartIndex + Drop> Store<I> {
-    /// A store over an empty index. By the hash key the keys of runs have numbers: no answer depends on it.
+    /// A store over an empty index, which makes 65,535 runs at most. By the hash key the keys of runs have numbers: no
+    /// answer depends on it.
     ///
     /// # Errors
     /// NoMemory, where memory was refused for the ring of wishes, the tables or what holds them.
     pub fn open(alloc: Global, index: I, hash: HashKey) -> Result<Store<I>, NoMemory>
         requires { I.entries index ≡ [] }
-        ensures empty { IfOk result (λ store. store ≡ empty_state) }
+        ensures empty { IfOk result (λ store. store ≡ empty_state 65535) }
+        ensures stands { IfOk result (λ store. IsSoundAt [] store) }
+    {
+        Store::open_for(alloc, index, hash, MAX_RUNS)
+    }
+
+    /// The same of a store that makes so many runs at most, 4,294,967,294 or fewer.
+    ///
+    /// # Errors
+    /// NoMemory, as above.
+    pub fn open_for(
+        alloc: Global,
+        index: I,
+        hash: HashKey,
+        most_runs: u32,
+    ) -> Result<Store<I>, NoMemory>
+        requires empty { I.entries index ≡ [] }
+        requires few { most_runs ≤ 4294967294 }
+        ensures empty { IfOk result (λ store. store ≡ empty_state most_runs) }
         ensures stands { IfOk result (λ store. IsSoundAt [] store) }
     {
         am_sound::steps_lift();
         let wishes = Wishes::new(alloc)?;
         let parts = Parts::new(alloc, index, hash);
         // Asked here, each value is known to have its room.
-        prove!(parts.runs() <= 65535);
+        prove!(parts.runs() <= 4294967294);
         let inner = Inner {
             alloc,
             parts,
             txs: TxTable::new(alloc)?,
             wishes,
             commits: 0,
+            most_runs,
         };
         Ok(Store {
             inner: Box::new(alloc, inner)?,
@@ -141,6 +161,7 @@ fn step_there<I: PartIndex + Drop>(inner: &mut Box<Inner<I>>, step: Step) -> Rep
     requires fit { IsFit (inner_state inner.old.value) }
     requires few { inner.old.value.commits + length inner.old.value.txs.active ≤ 2 ^ 63 }
     requires room { HasRooms inner.old.value }
+    requires runs { inner.old.value.most_runs ≤ 4294967294 }
     ensures says { MayAnswer (inner_state inner.old.value) step result }
     ensures after { inner_state inner.new.value ≡ state_after (inner_state inner.old.value) step result }
     ensures memory { result ≡ Reply.Refused OutOfMemory → may_want_memory (inner_state inner.old.value) step ≡ true }

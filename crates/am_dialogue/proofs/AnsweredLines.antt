@@ -37,7 +37,7 @@ use Rattle.am_dialogue.specs.declared.action.Action.TheVariants.{Answer, Take, T
 use Rattle.am_dialogue.specs.declared.response.Response.{Response}
 use Rattle.am_dialogue.specs.declared.response.Response.TheVariants.{TooLong, Faulty, NoTransaction, Active, Staged}
 use Rattle.am_dialogue.specs.declared.response.Response.TheVariants.{TooManyStaged, StillStaged, Replied, Seen}
-use Rattle.am_dialogue.specs.declared.response.Response.TheVariants.{Hold}
+use Rattle.am_dialogue.specs.declared.response.Response.TheVariants.{Hold, Lapsed}
 use Rattle.am_dialogue.specs.declared.response.HoldAnswer.{HoldAnswer}
 use Rattle.am_dialogue.specs.declared.response.HoldAnswer.TheVariants.{Granted, OutOfBounds, HeldBy}
 use Rattle.am_dialogue.proofs.Conversations.{Between, HoldsOfLines}
@@ -70,6 +70,10 @@ none_line = fixed (codes "ERR NOTX") refl
 active_line : IsLine Active
 unfolding is_free
 active_line = fixed (codes "ERR ACTIVE") refl
+
+lapsed_line : IsLine Lapsed
+unfolding is_free
+lapsed_line = fixed (codes "ERR IDLE") refl
 
 seen_line : (session commits : ℕ) → IsLine (Seen session commits)
 unfolding is_free
@@ -215,7 +219,8 @@ pub record Visibly (waiting : Records) (rest : Trace) : Type 0 where
   pub to : Store
   pub visible : IsVisibleStore to
   pub waits : AreVisible waiting
-  pub follows : Follows to rest
+  pub most_runs : ℕ
+  pub follows : Follows most_runs to rest
 
 abbrev pub AreLines : List Exchange → Type 0
 AreLines exchanges = AllByRecursion (λ (e : Exchange). IsOneLine (response_text e.1)) exchanges
@@ -231,13 +236,14 @@ module _ {B : Type 0} (means : BackendMeaning B) where
       TakesStep means old step reply events new → Visibly old.1 (events ++ rest) →
       IsLine (Replied reply) × Visibly new.1 rest
   steps old new step reply events rest is takes v =
-      let may : Follows v.to ((step, reply) ∷ rest) =
-      subst (λ (es : Trace). Follows v.to (es ++ rest)) takes.1 v.follows in (
-        reply_line reply (tells_visible v.to step reply is v.visible may.0),
+      let may : Follows v.most_runs v.to ((step, reply) ∷ rest) =
+      subst (λ (es : Trace). Follows v.most_runs v.to (es ++ rest)) takes.1 v.follows in (
+        reply_line reply (tells_visible v.most_runs v.to step reply is v.visible may.0),
         record {
           to = after_step v.to step reply;
           visible = after_visible v.to step reply is v.visible;
           waits = subst AreVisible (sym takes.2) (after_reply old.1 reply v.waits);
+          most_runs = v.most_runs;
           follows = may.1;
         },
       )
@@ -249,7 +255,8 @@ module _ {B : Type 0} (means : BackendMeaning B) where
     to = v.to;
     visible = v.visible;
     waits = subst AreVisible (sym same) v.waits;
-    follows = subst (λ (es : Trace). Follows v.to (es ++ rest)) none v.follows;
+    most_runs = v.most_runs;
+    follows = subst (λ (es : Trace). Follows v.most_runs v.to (es ++ rest)) none v.follows;
   }
 
   acts : (old new : SessionPoint B) (what : Action) (response : Response) (events rest : Trace) → IsVisibleDue what →
@@ -273,12 +280,16 @@ module _ {B : Type 0} (means : BackendMeaning B) where
 
   answers : (old new : SessionPoint B) (e : Exchange) (events : Trace) → AnswersLine means old e events new →
       Tells old (e ∷ []) events new
-  answers old new e events a rest v =
+  answers old new e events (inl a) rest v =
       let due : GoesVisibly a.2.0 (session_at means (old.0, a.2.1)) = due_visible (session_at means old) e.0 a.0 a.2.0
       (session_at means (old.0, a.2.1)) v.waits a.1 a.2.2 in
       let told = acts (old.0, a.2.1) new a.2.0 e.1 events rest due.0 a.2.3
-      (record { to = v.to; visible = v.visible; waits = due.1; follows = v.follows }) in
+      (record { to = v.to; visible = v.visible; waits = due.1; most_runs = v.most_runs; follows = v.follows }) in
       ((told.0, tt), told.1)
+  answers old new e events (inr (is, (lapses, (tx, active, takes)))) rest v = (
+    (subst IsLine (sym is) lapsed_line, tt),
+    (steps old new (step.Abort tx) reply.Aborted events rest tt takes v).1,
+  )
 
   pub tells : (auto : ℕ) → HoldsOfLines means auto Tells
   tells auto = record {
@@ -290,7 +301,8 @@ module _ {B : Type 0} (means : BackendMeaning B) where
           to = v.to;
           visible = v.visible;
           waits = v.waits;
-          follows = subst (Follows v.to) (append_assoc events later rest) v.follows;
+          most_runs = v.most_runs;
+          follows = subst (Follows v.most_runs v.to) (append_assoc events later rest) v.follows;
         }) in
         let then = g rest first.1 in (
           all_append (λ (e : Exchange). IsOneLine (response_text e.1)) exchanges more first.0 then.0,

@@ -1,6 +1,6 @@
 -- What goes for a backend's steps goes for its conversations.
 use Rattle.std.proofs.Common.{◌≡◌, ℕ, ◌==◌, List, [], ◌∷◌, ◌++◌, Bool, true, false, Option, Some, None, refl, sym, ap}
-use Rattle.std.proofs.Common.{subst}
+use Rattle.std.proofs.Common.{subst, inl, inr, ◌∙◌}
 use Rattle.std.specs.Prelude.{MatchBool}
 use Rattle.am_record.specs.declared.step.Step.{Step}
 use Rattle.am_record.specs.declared.step.Step.TheVariants.{Abort, Merge}
@@ -27,6 +27,7 @@ pub record TakesSteps {B C : Type 0} (from : BackendMeaning B) (to : BackendMean
       to.shows (image old) session commits (image new)
   pub holds : (b : B) (millis : ℕ) (answer : HoldAnswer) → from.holds b millis answer →
       to.holds (image b) millis answer
+  pub lapses : from.lapses → to.lapses
 
 module _ {B C : Type 0} (from : BackendMeaning B) (to : BackendMeaning C) (image : B → C)
     (takes : TakesSteps from to image) where
@@ -55,7 +56,7 @@ module _ {B C : Type 0} (from : BackendMeaning B) (to : BackendMeaning C) (image
 
   line_taken : (old new : SessionPoint B) (e : Exchange) (events : Trace) → AnswersLine from old e events new →
       AnswersLine to (point old) e events (point new)
-  line_taken old new e events a = (
+  line_taken old new e events (inl a) = inl (
     a.0,
     a.1,
     (
@@ -64,6 +65,13 @@ module _ {B C : Type 0} (from : BackendMeaning B) (to : BackendMeaning C) (image
       subst (λ (active : Option ℕ). IsActionFor (record { active = active; staged = old.1 }) a.0 a.2.0
           (record { active = active; staged = a.2.1 })) (sym (takes.active old.0)) a.2.2,
       action_taken (old.0, a.2.1) new a.2.0 e.1 events a.2.3,
+    ),
+  )
+  line_taken old new e events (inr (is, (lapses, (tx, active, (takes_abort, are, none))))) = inr (
+    is,
+    (
+      takes.lapses lapses,
+      (tx, takes.active old.0 ∙ active, (takes.steps old.0 new.0 (Abort tx) Aborted takes_abort, are, none)),
     ),
   )
 
@@ -201,10 +209,16 @@ module _ {B : Type 0} (means : BackendMeaning B) (Goes : B → Trace → B → T
   abbrev between : Between B
   between old exchanges events new = Goes old.0 events new.0
 
+  line_goes : (old new : SessionPoint B) (e : Exchange) (events : Trace) → AnswersLine means old e events new →
+      Goes old.0 events new.0
+  line_goes old new e events (inl a) = action_goes (old.0, a.2.1) new a.2.0 e.1 events a.2.3
+  line_goes old new e events (inr (is, (lapses, (tx, active, (takes_abort, are, none))))) =
+      stepped old.0 new.0 (Abort tx) Aborted events takes_abort are
+
   lines_go : (auto : ℕ) → HoldsOfLines means auto between
   lines_go auto = record {
     stays = λ at. holds.stays at.0;
-    lines = λ old new e events a. action_goes (old.0, a.2.1) new a.2.0 e.1 events a.2.3;
+    lines = line_goes;
     merges = λ old new reply events m. stepped old.0 new.0 (Merge auto) reply events m.0 m.1;
     joins = λ a b c exchanges more events later f g. holds.joins a.0 b.0 c.0 events later f g;
   }

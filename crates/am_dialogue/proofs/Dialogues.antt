@@ -55,7 +55,7 @@ Outcome s h r s' =
 -- where it leaves the machine, from which the rest of the trace goes on
 record Leads (w : Where) (h : ParsedLine) (r : Response) (rest : Trace) (at' : SessionPoint Alone) : Type 0 where
   to : Where
-  runs : Runs (machine_at to) rest
+  runs : Runs 65535 (machine_at to) rest
   stands : at' ≡ point_at to
   outcome : Outcome (state_at w) h r (state_at to)
 
@@ -68,10 +68,10 @@ at_once : (w : Where) (staged : Records) (h : ParsedLine) (action_for : Response
     response_due (state_at w) h ≡ Some action_for → state_at (record w { staged = staged }) ≡ state_after_line
     (state_at w) h →
     (r : Response) (own rest : Trace) (at' : SessionPoint Alone) → (r ≡ action_for) ×
-    Stays alone_meaning (alone_at w, staged) own at' → Runs (machine_at w) (own ++ rest) → Leads w h r rest at'
+    Stays alone_meaning (alone_at w, staged) own at' → Runs 65535 (machine_at w) (own ++ rest) → Leads w h r rest at'
 at_once w staged h action_for memory says same r own rest at' answered run = record {
   to = record w { staged = staged };
-  runs = subst (λ (x : Trace). Runs (machine_at w) (x ++ rest)) answered.1.0 run;
+  runs = subst (λ (x : Trace). Runs 65535 (machine_at w) (x ++ rest)) answered.1.0 run;
   stands = answered.1.1;
   outcome = inr (
     ap wants_memory answered.0 ∙ memory,
@@ -83,11 +83,11 @@ at_once w staged h action_for memory says same r own rest at' answered run = rec
 
 -- memory was refused to the line
 refused_line : (w : Where) (h : ParsedLine) (r : Response) (own rest : Trace) (at' : SessionPoint Alone) →
-    (r ≡ Faulty fault.NoMemory) × Stays alone_meaning (point_at w) own at' → Runs (machine_at w) (own ++ rest) →
+    (r ≡ Faulty fault.NoMemory) × Stays alone_meaning (point_at w) own at' → Runs 65535 (machine_at w) (own ++ rest) →
     Leads w h r rest at'
 refused_line w h r own rest at' answered run = record {
   to = w;
-  runs = subst (λ (x : Trace). Runs (machine_at w) (x ++ rest)) answered.1.0 run;
+  runs = subst (λ (x : Trace). Runs 65535 (machine_at w) (x ++ rest)) answered.1.0 run;
   stands = answered.1.1;
   outcome = inl (ap wants_memory answered.0, sym (ap (state_refused (state_at w) h) answered.0));
 }
@@ -96,7 +96,7 @@ refused_line w h r own rest at' answered run = record {
 shown : (w : Where) → response_due (state_at w) (said.Asked request.Seen) ≡ Some (Seen 0 w.commits) →
     state_at w ≡ state_after_line (state_at w) (said.Asked request.Seen) →
     (r : Response) (own rest : Trace) (at' : SessionPoint Alone) →
-    AnswersAction alone_meaning (point_at w) TellSeen r own at' → Runs (machine_at w) (own ++ rest) →
+    AnswersAction alone_meaning (point_at w) TellSeen r own at' → Runs 65535 (machine_at w) (own ++ rest) →
     Leads w (said.Asked request.Seen) r rest at'
 shown w says same r own rest at' a = at_once w w.staged (said.Asked request.Seen) (Seen 0 w.commits) refl says same r
     own
@@ -108,7 +108,7 @@ holds_alone : (w : Where) (millis : ℕ) (b : Bool) → response_due (state_at w
     state_at w ≡ state_after_line (state_at w) (said.Asked (request.Hold millis)) →
     (r : Response) (own rest : Trace) (at' : SessionPoint Alone) →
     AnswersAction alone_meaning (point_at w) (cond b (AskHold millis) (Answer (Hold OutOfBounds))) r own at' →
-    Runs (machine_at w) (own ++ rest) → Leads w (said.Asked (request.Hold millis)) r rest at'
+    Runs 65535 (machine_at w) (own ++ rest) → Leads w (said.Asked (request.Hold millis)) r rest at'
 holds_alone w millis true says same r own rest at' a = at_once w w.staged (said.Asked (request.Hold millis))
     (Hold Granted) refl says same r own rest at' (a.1 ∙ ap Hold a.2.0, a.2.1)
 holds_alone w millis false says same r own rest at' a = at_once w w.staged (said.Asked (request.Hold millis))
@@ -116,7 +116,8 @@ holds_alone w millis false says same r own rest at' a = at_once w w.staged (said
 
 -- a step that is told by a reply, and by what the machine may do
 abbrev After : Where → Step → Reply → Trace → Type 0
-After w s parsed_of rest = May (machine_at w) s parsed_of × Runs (next (machine_at w) (effect s parsed_of)) rest
+After w s parsed_of rest = May 65535 (machine_at w) s parsed_of × Runs 65535 (next (machine_at w) (effect s parsed_of))
+    rest
 
 -- the step was due where the session waits on with these records
 abbrev Told : Where → Records → Step → Request → Reply → Trace → Type 0
@@ -127,10 +128,10 @@ taken : (w : Where) (staged : Records) (s : Step) (asked : Request) →
     ((t : Reply) (rest : Trace) → After w s t rest → Told w staged s asked t rest) →
     (r : Response) (own rest : Trace) (at' : SessionPoint Alone) → (t : Reply) × (r ≡ Replied t) ×
     TakesStep alone_meaning (alone_at w, staged) s t own at' →
-    Runs (machine_at w) (own ++ rest) → Leads w (said.Asked asked) r rest at'
+    Runs 65535 (machine_at w) (own ++ rest) → Leads w (said.Asked asked) r rest at'
 taken w staged s asked tells r own rest at' a run =
     let led : Told w staged s asked a.0 rest = tells a.0 rest
-    (subst (λ (x : Trace). Runs (machine_at w) (x ++ rest)) a.2.1 run) in
+    (subst (λ (x : Trace). Runs 65535 (machine_at w) (x ++ rest)) a.2.1 run) in
     let stands : SessionPoint Alone = (alone_after (alone_at w) s a.0, staged_after staged a.0) in
     let with_reply : Leads w (said.Asked asked) r rest stands =
     subst (λ (x : Response). Leads w (said.Asked asked) x rest stands) (sym a.1) led in
@@ -138,7 +139,8 @@ taken w staged s asked tells r own rest at' a run =
 
 -- the reply is what is said
 said_so : (w : Where) (staged : Records) (s : Step) (asked : Request) (parsed_of : Reply) (rest : Trace) (to : Where) →
-    Runs (machine_at to) rest → (alone_after (alone_at w) s parsed_of, staged_after staged parsed_of) ≡ point_at to →
+    Runs 65535 (machine_at to) rest → (alone_after (alone_at w) s parsed_of, staged_after staged parsed_of) ≡ point_at
+    to →
     wants_memory (Replied parsed_of) ≡ false → response_due (state_at w) (said.Asked asked) ≡ Some (Replied parsed_of) →
     state_at to ≡ state_after_line (state_at w) (said.Asked asked) → Told w staged s asked parsed_of rest
 said_so w staged s asked parsed_of rest to run stands memory says same = record {
@@ -168,7 +170,7 @@ module _ (begun commits runs : ℕ) (m : PlainMap) (staged : Records) where
       let few : nat_le (2 ^ 63) begun ≡ false = lt-leb (2 ^ 63) begun a.0.2 in
       subst (λ (x : ℕ). Told idle staged step.Begin request.Begin (reply.Begun x) rest) (sym a.0.0)
       (said_so idle staged step.Begin request.Begin (reply.Begun (begun + 1)) rest started
-      (subst (λ (x : ℕ). Runs (record {
+      (subst (λ (x : ℕ). Runs 65535 (record {
         begun = begun + 1;
         commits = commits;
         runs = runs;
@@ -221,7 +223,7 @@ module _ (begun commits runs : ℕ) (m : PlainMap) (body : List Answered) (stage
     did_state parsed_of = state_did (state_at busy_on) own_ops whole parsed_of
 
     answered : (parsed_of : Reply) (rest : Trace) → parsed_of ≡ due_answer → refusal_due (state_at busy) own_ops whole ≡
-        None → Runs (next (machine_at busy) (effect_of_do begun whole parsed_of)) rest →
+        None → Runs 65535 (next (machine_at busy) (effect_of_do begun whole parsed_of)) rest →
         Told busy left_over (step.Do begun whole) asks parsed_of rest
     answered parsed_of rest is none run =
         let counts : Counts parsed_of = answer_counts parsed_of
@@ -230,7 +232,7 @@ module _ (begun commits runs : ℕ) (m : PlainMap) (body : List Answered) (stage
         sym is in
         said_so busy left_over (step.Do begun whole) asks parsed_of rest
         (record busy_on { runs = runs + runs_made whole parsed_of; own = Some (body ++ (whole, parsed_of) ∷ []) })
-        (subst (λ (x : machine.State). Runs x rest) (ap (next (machine_at busy)) (counts.effect begun whole) ∙
+        (subst (λ (x : machine.State). Runs 65535 x rest) (ap (next (machine_at busy)) (counts.effect begun whole) ∙
         next_did begun commits runs m body staged whole parsed_of) run)
         (λ i. (record { active = counts.active (Some begun) i; commits = commits }, counts.staged left_over i))
         counts.found
@@ -246,18 +248,18 @@ module _ (begun commits runs : ℕ) (m : PlainMap) (body : List Answered) (stage
 
     refused : (why : Refusal) (parsed_of : Reply) (rest : Trace) → parsed_of ≡ reply.Refused why →
         refusal_due (state_at busy) own_ops whole ≡ Some why →
-        Runs (next (machine_at busy) (effect_of_do begun whole parsed_of)) rest →
+        Runs 65535 (next (machine_at busy) (effect_of_do begun whole parsed_of)) rest →
         Told busy left_over (step.Do begun whole) asks parsed_of rest
     refused why parsed_of rest is action_for run =
         let due_reply : reply_due (state_at busy) own_ops whole ≡ reply.Refused why =
         ap (λ o. refused_or o due_answer) action_for in
         subst (λ (x : Reply). Told busy left_over (step.Do begun whole) asks x rest) (sym is)
         (said_so busy left_over (step.Do begun whole) asks (reply.Refused why) rest busy_on
-        (subst (λ (x : Reply). Runs (next (machine_at busy) (effect_of_do begun whole x)) rest) is run) refl
+        (subst (λ (x : Reply). Runs 65535 (next (machine_at busy) (effect_of_do begun whole x)) rest) is run) refl
         (due_found begun commits runs m body staged whole why action_for) (ap (λ r. Some (Replied r)) due_reply)
         (sym (ap did_state due_reply)))
 
-    no_memory : (rest : Trace) → Runs (machine_at busy) rest → Told busy left_over (step.Do begun whole) asks
+    no_memory : (rest : Trace) → Runs 65535 (machine_at busy) rest → Told busy left_over (step.Do begun whole) asks
         (reply.Refused why.NoMemory) rest
     no_memory rest run = record {
       to = busy_on;
@@ -271,7 +273,7 @@ module _ (begun commits runs : ℕ) (m : PlainMap) (body : List Answered) (stage
     did parsed_of rest a = by_due (refusal_due (state_at busy) own_ops whole) refl
         (subst (λ (o : Option Refusal). MatchOption o ((parsed_of ≡ answer whole (view (machine_at busy) begun)) ⊎
         (parsed_of ≡ reply.Refused why.NoMemory)) (λ why. parsed_of ≡ reply.Refused why))
-        (due_is begun commits runs m body staged whole) a.0)
+        (due_is begun commits runs m body staged whole parsed_of) a.0)
       where
         by_due : (o : Option Refusal) → refusal_due (state_at busy) own_ops whole ≡ o →
             MatchOption o ((parsed_of ≡ answer whole (view (machine_at busy) begun)) ⊎
@@ -281,7 +283,7 @@ module _ (begun commits runs : ℕ) (m : PlainMap) (body : List Answered) (stage
             (is ∙ ap (answer whole) (one_view begun commits runs m body staged)) none a.1
         by_due None none (inr wants) = subst (λ (x : Reply). Told busy left_over (step.Do begun whole) asks x rest)
             (sym wants)
-            (no_memory rest (subst (λ (x : Reply). Runs (next (machine_at busy) (effect_of_do begun whole x))
+            (no_memory rest (subst (λ (x : Reply). Runs 65535 (next (machine_at busy) (effect_of_do begun whole x))
             rest) wants a.1))
         by_due (Some w) action_for is = refused w parsed_of rest is action_for a.1
 
@@ -292,7 +294,8 @@ module _ (begun commits runs : ℕ) (m : PlainMap) (body : List Answered) (stage
       Told busy staged (step.Abort begun) request.Abort parsed_of rest
   aborts_own reply.Aborted rest a =
       said_so busy staged (step.Abort begun) request.Abort reply.Aborted rest (record busy { own = None; staged = [] })
-      (subst (λ (x : machine.State). Runs x rest) (next_aborted begun commits runs m body staged) a.1) refl refl refl
+      (subst (λ (x : machine.State). Runs 65535 x rest) (next_aborted begun commits runs m body staged) a.1) refl refl
+      refl
       refl
   aborts_own (reply.Refused why.NoSuchTx) rest a = not_open a.0
   aborts_own _ rest a = absurd a.0
@@ -322,7 +325,8 @@ module _ (begun commits runs : ℕ) (m : PlainMap) (body : List Answered) where
       subst (λ (x : ℕ). Told ready [] (step.Commit begun) request.Commit (reply.Committed x) rest) (sym a.0.1)
       (said_so ready [] (step.Commit begun) request.Commit (reply.Committed (commits + 1)) rest
       (record ready { commits = commits + 1; committed = left (ops_of body) m; own = None })
-      (subst (λ (x : machine.State). Runs x rest) (next_committed begun commits runs m body []) a.1) refl refl refl
+      (subst (λ (x : machine.State). Runs 65535 x rest) (next_committed begun commits runs m body []) a.1) refl refl
+      refl
       refl)
   commits_own (reply.Refused why.NoSuchTx) rest a = not_open begun commits runs m body [] a.0
   commits_own _ rest a = absurd a.0
@@ -340,7 +344,8 @@ unsaid s own _ e = absurd (true≢false (sym e))
 
 -- the session stands where it stood, and so does the machine
 abbrev IsKept : Where → Step → Reply → Trace → Type 0
-IsKept w s r rest = ((alone_after (alone_at w) s r, staged_after w.staged r) ≡ point_at w) × Runs (machine_at w) rest
+IsKept w s r rest = ((alone_after (alone_at w) s r, staged_after w.staged r) ≡ point_at w) ×
+    Runs 65535 (machine_at w) rest
 
 kept_up : (w : Where) (s : Step) (asked : Request) (r : Reply) (rest : Trace) → is_upkeep (said.Asked asked) ≡ true →
     is_load_line (said.Asked asked) ≡ false → IsKept w s r rest → Told w w.staged s asked r rest
@@ -405,7 +410,7 @@ Line_leads w h = (r : Response) (own rest : Trace) (at' : SessionPoint Alone) �
     AnswersAction alone_meaning (alone_at w, (session_behind_line (session w) h).staged) (action_for (session w) h) r
     own
     at' →
-    Runs (machine_at w) (own ++ rest) → Leads w h r rest at'
+    Runs 65535 (machine_at w) (own ++ rest) → Leads w h r rest at'
 
 -- with no transaction active
 module _ (begun commits runs : ℕ) (m : PlainMap) (staged : Records) where
@@ -505,7 +510,7 @@ module _ (w : Where) (r : Response) (own : Trace) (at' : SessionPoint Alone) whe
 
   leads_line : (line : Line) (h : ParsedLine) (what : Action) (waiting : Records) (rest : Trace) → MayParse line h →
       IsActionFor (session w) h what (session_at alone_meaning (alone_at w, waiting)) → Acts waiting what →
-      Runs (machine_at w) (own ++ rest) → Leads w (parsed line) r rest at'
+      Runs 65535 (machine_at w) (own ++ rest) → Leads w (parsed line) r rest at'
   leads_line line h what waiting rest may maybe acts run =
       let here : SessionState = session_at alone_meaning (alone_at w, waiting) in
       ⊎_elim
@@ -524,20 +529,25 @@ module _ (w : Where) (r : Response) (own : Trace) (at' : SessionPoint Alone) whe
 -- the machine goes on, and what is said to these exchanges is said before all that is said from there
 pub record GoesOn (w : Where) (exchanges : List Exchange) (rest : Trace) (new : SessionPoint Alone) : Type 0 where
   pub to : Where
-  pub runs : Runs (machine_at to) rest
+  pub runs : Runs 65535 (machine_at to) rest
   pub stands : new ≡ point_at to
   pub says : (later : List Exchange) → SaysFrom (state_at to) later → SaysFrom (state_at w) (exchanges ++ later)
 
 answers_so : (w : Where) (at at' : SessionPoint Alone) (e : Exchange) (own rest : Trace) → at ≡ point_at w →
-    AnswersLine alone_meaning at e own at' → Runs (machine_at w) (own ++ rest) → Leads w (parsed e.0) e.1 rest at'
+    AnswersLine alone_meaning at e own at' → Runs 65535 (machine_at w) (own ++ rest) → Leads w (parsed e.0) e.1 rest at'
 answers_so w at at' e own rest here a run =
     let b : AnswersLine alone_meaning (point_at w) e own at' =
     subst (λ (x : SessionPoint Alone). AnswersLine alone_meaning x e own at') here a in
-    leads_line w e.1 own at' e.0 b.0 b.2.0 b.2.1 rest b.1 b.2.2 b.2.3 run
+    by_kind b
+  where
+    by_kind : AnswersLine alone_meaning (point_at w) e own at' → Leads w (parsed e.0) e.1 rest at'
+    by_kind (inl b) = leads_line w e.1 own at' e.0 b.0 b.2.0 b.2.1 rest b.1 b.2.2 b.2.3 run
+    by_kind (inr late) = absurd late.1.0
 
 -- from where the session and the machine stand together
 abbrev pub SaysSo : Between Alone
-SaysSo old exchanges events new = (w : Where) (rest : Trace) → old ≡ point_at w → Runs (machine_at w) (events ++ rest) →
+SaysSo old exchanges events new = (w : Where) (rest : Trace) → old ≡ point_at w →
+    Runs 65535 (machine_at w) (events ++ rest) →
     GoesOn w exchanges rest new
 
 pub says_so : (auto : ℕ) → HoldsOfLines alone_meaning auto SaysSo
@@ -552,7 +562,7 @@ says_so auto = record {
         says = λ later h. says_next e later (state_at w) (state_at led.to) led.outcome h;
       };
   merges = λ old new r events m w rest here run.
-      let kept = merge_keeps w auto r rest (subst (λ (es : Trace). Runs (machine_at w) (es ++ rest)) m.1 run) in
+      let kept = merge_keeps w auto r rest (subst (λ (es : Trace). Runs 65535 (machine_at w) (es ++ rest)) m.1 run) in
       let to : SessionPoint Alone → SessionPoint Alone =
       λ x. (alone_after x.0 (step.Merge auto) r, staged_after x.1 r) in
       record {
@@ -562,7 +572,7 @@ says_so auto = record {
         says = λ later h. h;
       };
   joins = λ a b c exchanges more events later f g w rest here run.
-      let first = f w (later ++ rest) here (subst (Runs (machine_at w)) (append_assoc events later rest) run) in
+      let first = f w (later ++ rest) here (subst (Runs 65535 (machine_at w)) (append_assoc events later rest) run) in
       let second = g first.to rest first.stands first.runs in
       record {
         to = second.to;

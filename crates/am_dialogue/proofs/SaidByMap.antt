@@ -22,7 +22,7 @@ use Rattle.am_record.specs.declared.step.Refusal.TheVariants as why
 use Rattle.am_serial.specs.Trace.{Answered, ops_of, Answers, Commits, Aborts, effect_of_do, runs_made}
 use Rattle.am_serial.specs.Machine as machine
 use Rattle.am_record.specs.Refusals.{refusal_before_lock, or_else, lock_refusal, is_one_too_many, is_bounded, is_load}
-use Rattle.am_serial.specs.Machine.{Transaction, due, due_early, due_lock, next, view}
+use Rattle.am_serial.specs.Machine.{Transaction, is_full, says_full, due, due_early, due_lock, next, view}
 use Rattle.am_dialogue.specs.Session.{staged_after}
 use Rattle.am_dialogue.specs.Alone.{Alone}
 use Rattle.am_dialogue.specs.Conversation.{SessionPoint}
@@ -196,8 +196,17 @@ module _ (begun commits runs : ℕ) (m : PlainMap) (body : List Answered) (stage
   pub one_view : view (machine_at here) begun ≡ left_on ops (fresh m)
   one_view = λ i. left_on (ops_of (cond (nat_eq_equiv.refl begun i) body [])) (fresh m)
 
-  early : (op : Op) → due_early (machine_at here) begun op ≡ refusal_before_lock true (length body) runs op
-  early op = ap (λ b. refusal_before_lock (b || false) (length (cond b body [])) runs op) (nat_eq_equiv.refl begun)
+  -- where as many runs may be made as may have entries, no reply says more
+  enough : (a b : Bool) → (a || (a && b)) ≡ a
+  enough true b = refl
+  enough false b = refl
+
+  early : (op : Op) (r : Reply) → due_early (is_full 65535 runs r) (machine_at here) begun op ≡
+      refusal_before_lock true (length body) (nat_le 65535 runs) op
+  early op r =
+      ap (λ b. refusal_before_lock (b || false) (length (cond b body [])) (is_full 65535 runs r) op)
+      (nat_eq_equiv.refl begun)
+      ∙ ap (λ b. refusal_before_lock true (length body) b op) (enough (nat_le 65535 runs) (says_full r))
 
   late : (op : Op) → due_lock (machine_at here) begun op ≡ lock_refusal None
       (is_one_too_many (locks_of ops) (lock_of op))
@@ -207,10 +216,11 @@ module _ (begun commits runs : ℕ) (m : PlainMap) (body : List Answered) (stage
       (nat_eq_equiv.refl begun)
 
   -- the refusal that the machine owes is the one that is due alone
-  pub due_is : (op : Op) → due (machine_at here) begun op ≡ refusal_due (state_at here) ops op
-  due_is op =
-      (λ i. or_else (early op i) (late op i))
-      ∙ ap (λ n. or_else (refusal_before_lock true n runs op)
+  pub due_is : (op : Op) (r : Reply) → due (is_full 65535 runs r) (machine_at here) begun op ≡
+      refusal_due (state_at here) ops op
+  due_is op r =
+      (λ i. or_else (early op r i) (late op i))
+      ∙ ap (λ n. or_else (refusal_before_lock true n (nat_le 65535 runs) op)
       (lock_refusal None (is_one_too_many (locks_of ops) (lock_of op))))
       (sym (length-map body (λ (a : Answered). a.0)))
 

@@ -20,7 +20,7 @@ use Rattle.am_record.specs.declared.step.Refusal.{Refusal}
 use Rattle.am_record.specs.declared.step.Refusal.TheVariants as why
 use Rattle.am_serial.specs.Trace.{Answered, ops_of, Effect, Begins, Answers, Commits, Aborts, Nothing, effect}
 use Rattle.am_record.specs.Refusals.{is_limit}
-use Rattle.am_serial.specs.Machine.{State, Transaction, body_in, view, due, extended, next}
+use Rattle.am_serial.specs.Machine.{State, Transaction, body_in, view, is_full, due, extended, next}
 use Rattle.am_effect.specs.MergeAnswers.{Holders, candidates, AnswersFirst, AnswersCandidates, MergeRight}
 use Rattle.am_effect.specs.Store.{Store, opened, holder, MayReply, after_step}
 use Rattle.am_effect.specs.WrittenKeys.{StepWritesKeys, HaveKeys}
@@ -171,18 +171,19 @@ within_limit : (b : Bool) (right : Type 0) (told : Reply) → (right → TellsVi
 within_limit true right told tells a = tells a
 within_limit false right told tells a = subst TellsVisible (sym a) tt
 
-pub tells_visible : (s : Store) (what : Step) (told : Reply) → IsVisibleStep what → IsVisibleStore s →
-    MayReply s what told → TellsVisible told
-tells_visible s step.Begin (reply.Begun t) w h may = tt
-tells_visible s step.Begin (reply.Refused why) w h may = tt
-tells_visible s (step.Do t o) told w h may = do_tells s.state t o told (due s.state t o) w h.state may
-tells_visible s (step.Commit t) (reply.Committed c) w h may = tt
-tells_visible s (step.Commit t) (reply.Refused why) w h may = tt
-tells_visible s (step.Abort t) reply.Aborted w h may = tt
-tells_visible s (step.Abort t) (reply.Refused why) w h may = tt
-tells_visible s (step.Merge limit) told w h may =
+pub tells_visible : (most_runs : ℕ) (s : Store) (what : Step) (told : Reply) → IsVisibleStep what →
+    IsVisibleStore s → MayReply most_runs s what told → TellsVisible told
+tells_visible most_runs s step.Begin (reply.Begun t) w h may = tt
+tells_visible most_runs s step.Begin (reply.Refused why) w h may = tt
+tells_visible most_runs s (step.Do t o) told w h may = do_tells s.state t o told
+    (due (is_full most_runs s.state.runs told) s.state t o) w h.state may
+tells_visible most_runs s (step.Commit t) (reply.Committed c) w h may = tt
+tells_visible most_runs s (step.Commit t) (reply.Refused why) w h may = tt
+tells_visible most_runs s (step.Abort t) reply.Aborted w h may = tt
+tells_visible most_runs s (step.Abort t) (reply.Refused why) w h may = tt
+tells_visible most_runs s (step.Merge limit) told w h may =
     within_limit (is_limit limit) (MergeRight s.entries s.wishes (holder s.state.active) limit told) told
     (merge_tells s.entries s.wishes (holder s.state.active) limit told h.keys) may
-tells_visible s (step.Clean range limit) told w h may = within_limit (is_limit limit) _ told
+tells_visible most_runs s (step.Clean range limit) told w h may = within_limit (is_limit limit) _ told
     (λ a. subst TellsVisible (sym a) tt) may
-tells_visible s _ _ w h may = absurd may
+tells_visible most_runs s _ _ w h may = absurd may

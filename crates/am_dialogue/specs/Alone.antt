@@ -45,6 +45,7 @@ alone_meaning = record {
   steps = λ old step reply new. new ≡ alone_after old step reply;
   shows = AloneShows;
   holds = λ a millis answer. AloneHolds answer;
+  lapses = ⊥;
 }
 
 -- from its start on the lines were answered so, with these events

@@ -1,6 +1,6 @@
 -- A session with a backend, line by line. It stands at a point: a state of the backend, and the records that wait in
 -- the session for its next load.
-use Rattle.std.specs.Prelude.{◌≡◌, ℕ, ◌==◌, List, [], ◌∷◌, ◌++◌, Option, Some, None, MatchBool}
+use Rattle.std.specs.Prelude.{◌≡◌, ◌⊎◌, ℕ, ◌==◌, List, [], ◌∷◌, ◌++◌, Option, Some, None, MatchBool}
 use Rattle.am_record.specs.declared.step.Step.{Step}
 use Rattle.am_record.specs.declared.step.Step.TheVariants.{Abort, Merge}
 use Rattle.am_record.specs.declared.step.Reply.{Reply}
@@ -16,7 +16,7 @@ use Rattle.am_dialogue.specs.declared.lines.ParsedLine.{ParsedLine}
 use Rattle.am_dialogue.specs.declared.action.Action.{Action}
 use Rattle.am_dialogue.specs.declared.action.Action.TheVariants.{Answer, Take, TellSeen, AskHold}
 use Rattle.am_dialogue.specs.declared.response.Response.{Response}
-use Rattle.am_dialogue.specs.declared.response.Response.TheVariants.{Replied, Seen, Hold}
+use Rattle.am_dialogue.specs.declared.response.Response.TheVariants.{Replied, Seen, Hold, Lapsed}
 use Rattle.am_dialogue.specs.declared.response.HoldAnswer.{HoldAnswer}
 
 abbrev pub SessionPoint : Type 0 → Type 0
@@ -59,9 +59,22 @@ module _ {B : Type 0} (means : BackendMeaning B) where
       (what : Action) × (waiting : Records) × IsActionFor (session_at old) parsed what (session_at (old.0, waiting)) ×
       AnswersAction (old.0, waiting) what response events new
 
+  -- the line was answered by what it says
+  abbrev pub AnswersHeard : SessionPoint B → Exchange → Trace → SessionPoint B → Type 0
+  AnswersHeard old e events new = (parsed : ParsedLine) × MayParse e.0 parsed × AnswersParsed old parsed e.1 events new
+
+  -- no line came for too long, and the transaction was aborted
+  abbrev pub Lapses : SessionPoint B → Trace → SessionPoint B → Type 0
+  Lapses old events new = means.lapses × ((tx : ℕ) × (means.active old.0 ≡ Some tx) ×
+      TakesStep old (Abort tx) Aborted events new)
+
+  -- and the line that came then was answered so, whatever it says
+  abbrev pub AnswersLate : SessionPoint B → Exchange → Trace → SessionPoint B → Type 0
+  AnswersLate old e events new = (e.1 ≡ Lapsed) × Lapses old events new
+
   -- the line was answered
   abbrev pub AnswersLine : SessionPoint B → Exchange → Trace → SessionPoint B → Type 0
-  AnswersLine old e events new = (parsed : ParsedLine) × MayParse e.0 parsed × AnswersParsed old parsed e.1 events new
+  AnswersLine old e events new = AnswersHeard old e events new ⊎ AnswersLate old e events new
 
   -- a merge follows each answer, unless `auto` is 0
   abbrev pub MergesAfter : ℕ → SessionPoint B → Trace → SessionPoint B → Type 0

@@ -1,5 +1,5 @@
 -- What a line says.
-use Rattle.std.specs.Prelude.{◌≡◌, ℕ, List, [], ◌∷◌, Bool, true, false, cond, Option, Some, None, Result, Ok, Err}
+use Rattle.std.specs.Prelude.{◌≡◌, ℕ, List, Bool, true, false, Option, Some, None, Result, Ok, Err}
 use Rattle.am_wire.specs.LineReadings.{reading, MayRead}
 use Rattle.am_wire.specs.declared.request.Request.{Request}
 use Rattle.am_wire.specs.declared.request.Request.TheVariants.{Stage, Merge, Clean, Hold, Quit}
@@ -42,13 +42,3 @@ is_stage _ = false
 abbrev pub is_hold : ParsedLine → Bool
 is_hold (Asked (Hold millis)) = true
 is_hold _ = false
-
--- the lines before the first QUIT
-abbrev pub before_quit : List Line → List Line
-before_quit [] = []
-before_quit (line ∷ lines) = cond (is_quit (parsed line)) [] (line ∷ before_quit lines)
-
--- whether there is a QUIT
-abbrev pub quits : List Line → Bool
-quits [] = false
-quits (line ∷ lines) = cond (is_quit (parsed line)) true (quits lines)

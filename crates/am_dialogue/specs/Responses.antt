@@ -1,12 +1,12 @@
 -- The texts that a session writes.
-use Rattle.std.specs.Prelude.{ℕ, List, [], ◌∷◌, ◌++◌, Bool, cond, codes, decimal}
+use Rattle.std.specs.Prelude.{ℕ, List, [], ◌∷◌, ◌++◌, Bool, true, false, cond, codes, decimal}
 use Rattle.am_wire.specs.Replies.{text_of}
 use Rattle.am_text.specs.declared.fault.LineFault.{LineFault}
 use Rattle.am_text.specs.declared.fault.LineFault.TheVariants.{Syntax, Range, NoMemory}
 use Rattle.am_dialogue.specs.declared.response.Response.{Response}
 use Rattle.am_dialogue.specs.declared.response.Response.TheVariants.{TooLong, Faulty, NoTransaction, Active, Staged}
 use Rattle.am_dialogue.specs.declared.response.Response.TheVariants.{TooManyStaged, StillStaged, Replied, Seen}
-use Rattle.am_dialogue.specs.declared.response.Response.TheVariants.{Hold}
+use Rattle.am_dialogue.specs.declared.response.Response.TheVariants.{Hold, Lapsed}
 use Rattle.am_dialogue.specs.declared.response.HoldAnswer.{HoldAnswer}
 use Rattle.am_dialogue.specs.declared.response.HoldAnswer.TheVariants.{Granted, OutOfBounds, HeldBy}
 
@@ -40,6 +40,12 @@ response_text StillStaged = line (codes "ERR STAGED")
 response_text (Replied reply) = text_of reply
 response_text (Seen session commits) = seen_text session commits
 response_text (Hold answer) = hold_text answer
+response_text Lapsed = line (codes "ERR IDLE")
+
+-- whether a line was answered that it came too late
+abbrev pub is_lapsed : Response → Bool
+is_lapsed Lapsed = true
+is_lapsed response = false
 
 -- the answer to QUIT
 abbrev pub bye : List ℕ

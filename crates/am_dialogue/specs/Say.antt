@@ -2,7 +2,7 @@
 use Rattle.std.specs.Prelude.{◌≡◌, ℕ, ◌+◌, nat_le, length, List, [], ◌∷◌, ◌++◌, Bool, true, false, cond, not, ◌&&◌}
 use Rattle.std.specs.Prelude.{filter, map, Option, Some, None, MatchBool, MatchOption}
 use Rattle.std.specs.FinMap.{empty}
-use Rattle.am_record.specs.Limits.{max_begun}
+use Rattle.am_record.specs.Limits.{max_begun, max_runs}
 use Rattle.am_record.specs.Records.{Records}
 use Rattle.am_record.specs.Plain.{PlainMap, fresh, answer, left, left_on}
 use Rattle.am_record.specs.Asks.{lock_of, locks_of}
@@ -43,7 +43,7 @@ dialogue_start = record { begun = 0; commits = 0; runs = 0; committed = empty; o
 -- the refusal that is due to an operation, by those before it; a session alone meets no lock of another
 abbrev pub refusal_due : DialogueState → List Op → Op → Option Refusal
 refusal_due s ops op =
-    or_else (refusal_before_lock true (length ops) s.runs op)
+    or_else (refusal_before_lock true (length ops) (nat_le max_runs s.runs) op)
     (lock_refusal None (is_one_too_many (locks_of ops) (lock_of op)))
 
 -- the reply: the refusal that is due, and else the answer on the committed map with the transaction's own operations

@@ -18,8 +18,8 @@ use am_serial::sound_traces_are_runs;
 /// Where one session alone had its steps answered by a sound trace, what it was answered is what is said to its lines.
 /// The answer to a last line may have been torn.
 pub fn sound_dialogues_say()
-    ensures { (auto : ℕ) (exchanges : List Exchange) (torn : Option Exchange) (trace : Trace) → IsSound trace →
-        AnswersAlone auto exchanges torn trace → Says (with_torn exchanges torn) }
+    ensures { (auto : ℕ) (exchanges : List Exchange) (torn : Option Exchange) (trace : Trace) →
+        IsSound 65535 trace → AnswersAlone auto exchanges torn trace → Says (with_torn exchanges torn) }
 {
     sound_traces_are_runs();
 }
@@ -41,7 +41,7 @@ pub fn staging_is_loading()
 /// stands in it. What the store holds came on lines, so no LF is among it. The answer to a last line may have been
 /// torn.
 pub fn answers_are_lines()
-    ensures { (auto : ℕ) (exchanges : List Exchange) (torn : Option Exchange) (trace : Trace) →
-        Follows opened trace → AnswersAlone auto exchanges torn trace →
+    ensures { (most_runs auto : ℕ) (exchanges : List Exchange) (torn : Option Exchange) (trace : Trace) →
+        Follows most_runs opened trace → AnswersAlone auto exchanges torn trace →
         All (λ (e : Exchange). IsOneLine (response_text e.1)) (with_torn exchanges torn) }
 {}

@@ -21,7 +21,7 @@ pub enum HoldAnswer {
 }
 
 /// What a session writes for a line: a fault of the line, or of its place in the session, the reply to its step, what
-/// SEEN tells, or what HOLD is answered.
+/// SEEN tells, what HOLD is answered, or that the line came too late.
 #[derive(Drop)]
 pub enum Response {
     TooLong,
@@ -41,6 +41,8 @@ pub enum Response {
     Seen(u64, u64),
     /// Whether the session holds.
     Hold(HoldAnswer),
+    /// No line came for too long, so the transaction was aborted. The line did nothing.
+    Lapsed,
 }
 
 /// Writes the text of a response. It takes no memory. At an error a beginning of it went out.
@@ -63,6 +65,7 @@ pub fn put_response<K: Sink>(response: &Response, sink: &mut K) -> Result<(), Fa
             text_of_seen(*session, *commits).as_slice(),
         ),
         Response::Hold(answer) => give_all(sink, text_of_hold(*answer).as_slice()),
+        Response::Lapsed => give_all(sink, b"ERR IDLE\n"),
     }
 }
 

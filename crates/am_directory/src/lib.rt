@@ -2,7 +2,7 @@
 //!
 //! A [`Directory`] is a hash table with linear probing, of a word for each key that is live in a run. It is looked at
 //! by the key's number, and knows no keys: a word has the upper 47 bits of a number, the label, and 17 bits for the
-//! run. So a look costs one probe, whatever the number of runs.
+//! run's place. So a look costs one probe, whatever the number of runs.
 //!
 //! A word is never taken out. One of a key that left the runs stays until the table is made anew, so no way to a word
 //! has a gap. A fifth of the words stay empty, so that looks are short. Of two keys of one label nothing is known

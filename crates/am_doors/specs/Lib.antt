@@ -7,3 +7,4 @@ pub mod Tallies
 pub mod Turnstiles
 pub mod Tickets
 pub mod WaitingLaws
+pub mod Patience

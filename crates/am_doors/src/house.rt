@@ -42,6 +42,8 @@ impl<'a> Doors<'a> {
 pub struct Limits {
     /// How long a session may be idle, where that is limited.
     pub idle: Option<Duration>,
+    /// How long a transaction may be active while no line of its session comes, where that is limited.
+    pub lapse: Option<Duration>,
     /// For how many milliseconds at most a session may hold.
     pub hold: u64,
 }
@@ -65,6 +67,8 @@ pub struct House<'a> {
     pub mode: Mode,
     /// How long a session may be idle, where that is limited.
     pub idle: Option<Duration>,
+    /// How long a transaction may be active while no line of its session comes, where that is limited.
+    pub lapse: Option<Duration>,
     is_stopped: &'a AtomicBool,
     all_ended: AtomicBool,
 }
@@ -100,6 +104,7 @@ impl<'a> House<'a> {
         requires { sessions ≤ 256 }
         ensures mode { IfOk result (λ house. house.mode ≡ mode) }
         ensures idle { IfOk result (λ house. house.idle ≡ limits.idle) }
+        ensures lapse { IfOk result (λ house. house.lapse ≡ limits.lapse) }
         ensures hold { IfOk result (λ house. house.turnstile ≡ limits.hold) }
         ensures seats { IfOk result (λ house. house.seats ≡ sessions) }
         ensures places { IfOk result (λ house. house.connections ≡
@@ -121,6 +126,7 @@ impl<'a> House<'a> {
             tally: Tally::new(),
             mode,
             idle: limits.idle,
+            lapse: limits.lapse,
             is_stopped,
             all_ended: AtomicBool::new(false),
         })

@@ -200,4 +200,17 @@ impl<S: Source + Drop> Source for OwnLines<S> {
             Stage::First | Stage::Open => self.take_open(into),
         }
     }
+
+    // Once it is closed nothing is waited for.
+    fn await_more(&mut self) -> bool
+        ensures kept { Took (λ s. may_come S.comes s) self.old [] self.new }
+        ensures same { S.failures self.new.source + self.new.refused ≡
+            S.failures self.old.source + self.old.refused }
+        ensures stage { (self.new.stage ≡ self.old.stage) × (begun self.new ≡ begun self.old) }
+    {
+        match self.stage {
+            Stage::Closed => true,
+            Stage::First | Stage::Open => self.source.await_more(),
+        }
+    }
 }

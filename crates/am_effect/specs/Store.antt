@@ -93,17 +93,17 @@ after_step s step reply = record {
 abbrev pub WithinLimit : ℕ → Reply → Type 0 → Type 0
 WithinLimit limit reply right = MatchBool (is_limit limit) right (reply ≡ Refused BadLimit)
 
--- the store may give this reply to the step
-abbrev pub MayReply : Store → Step → Reply → Type 0
-MayReply s (Merge limit) reply = WithinLimit limit reply
+-- the store that makes so many runs at most may give this reply to the step
+abbrev pub MayReply : ℕ → Store → Step → Reply → Type 0
+MayReply most_runs s (Merge limit) reply = WithinLimit limit reply
     (MergeRight s.entries s.wishes (holder s.state.active) limit reply)
-MayReply s (Clean range limit) reply = WithinLimit limit reply
+MayReply most_runs s (Clean range limit) reply = WithinLimit limit reply
     (CleanRight s.entries (holder s.state.active) range limit reply)
-MayReply s step reply = May s.state step reply
+MayReply most_runs s step reply = May most_runs s.state step reply
 
-abbrev pub Follows : Store → Trace → Type 0
-Follows s [] = Unit {0}
-Follows s (e ∷ trace) = MayReply s e.0 e.1 × Follows (after_step s e.0 e.1) trace
+abbrev pub Follows : ℕ → Store → Trace → Type 0
+Follows most_runs s [] = Unit {0}
+Follows most_runs s (e ∷ trace) = MayReply most_runs s e.0 e.1 × Follows most_runs (after_step s e.0 e.1) trace
 
 abbrev pub after_all : Store → Trace → Store
 after_all s [] = s

@@ -226,7 +226,7 @@ impl Engine {
     /// which is sound.
     pub fn kept(&self) -> &[(Step, Reply)]
         ensures trace { self.now.trace ≡ self.now.handed.trace ++ result.now }
-        ensures sound { IsSoundStore self.now.trace }
+        ensures sound { IsSoundStore 65535 self.now.trace }
     {
         self.trace.as_slice()
     }
@@ -260,6 +260,7 @@ impl Engine {
     pub fn into_parts(self) -> (Vec<(Step, Reply)>, Store<BTree>)
         ensures trace { self.handed.trace ++ result.0.items ≡ self.trace }
         ensures stands { IsSoundAt self.trace result.1 }
+        ensures most { result.1.most_runs ≡ 65535 }
         ensures active { numbers_active result.1 ≡ active_in_trace self.trace }
         ensures even { length self.calls ≡ length self.trace }
     {

@@ -19,7 +19,7 @@ pub record EngineMayWant (seats : ℕ) (s : SeatState) (step : Step) : Type 0 wh
   pub engine : EngineState
   pub of : IsEngineOf seats engine
   pub own : HasReceiptsIn engine s
-  pub sound : IsSoundStore engine.trace
+  pub sound : IsSoundStore 65535 engine.trace
   pub wants : MayWantMemory engine step
 
 -- a call may be refused memory for the lists of its step or of its reply, for its receipt, or by the engine

@@ -195,7 +195,7 @@ impl<L: LatchName> Latch<L> {
     pub fn hand_out<R: Wait>(&self, rt: &R, taker: &mut Taker<L>) -> Result<Piece, NoMemory>
         ensures taken { IfOk result (λ p. taker.new ≡ taker.old ++ p.trace.items) }
         ensures next { IfOk result (λ p. (engine : EngineState) × IsEngineOf L.seats engine ×
-            IsSoundStore engine.trace × (engine.handed.trace ≡ taker.old) ×
+            IsSoundStore 65535 engine.trace × (engine.handed.trace ≡ taker.old) ×
             IsNextOf engine p.first record { trace = p.trace.items; calls = p.calls.items }) }
         ensures figures { IfOk result (λ p. AreFiguresAt taker.new p.figures) }
         ensures same { OnErr result (taker.new ≡ taker.old) }

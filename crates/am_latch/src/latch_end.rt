@@ -79,7 +79,7 @@ pub fn close<L: LatchName>(
     ensures open_txs { IfOk result (λ c. SeatsAreTied c.seats.items (numbers_active c.store)) }
     ensures active { IfOk result (λ c. numbers_active c.store ≡ active_in_trace (taker ++ c.trace.items)) }
     ensures stands { IfOk result (λ c. IsSoundAt (taker ++ c.trace.items) c.store) }
-    ensures legal { IfOk result (λ c. IsLegal (taker ++ c.trace.items)) }
+    ensures legal { IfOk result (λ c. IsLegal 65535 (taker ++ c.trace.items)) }
 {
     am_serial::sound_traces_are_legal();
     let Latch {

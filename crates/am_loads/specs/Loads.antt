@@ -1,6 +1,6 @@
 -- What a load of a run answers, and what it does to the partitions.
 use Rattle.std.specs.Prelude.{◌≡◌, ◌+◌, ◌==◌, ◌⊎◌, if◌then◌else◌}
-use Rattle.am_record.specs.Limits.{max_runs}
+use Rattle.am_record.specs.Limits.{last_run}
 use Rattle.am_record.specs.Plain.{Records, insert_all, least_taken, exists_or_done}
 use Rattle.am_record.specs.declared.step.Reply.{Reply}
 use Rattle.am_record.specs.declared.step.Reply.TheVariants.{Done, Refused}
@@ -11,7 +11,7 @@ use Rattle.am_parts.specs.Partitions.{Partitions}
 
 -- the reply that is due, where memory is ample
 abbrev pub load_due : Partitions → Records → Reply
-load_due parts pairs = if parts.runs == max_runs then Refused TooManyRuns else exists_or_done
+load_due parts pairs = if parts.runs == last_run then Refused TooManyRuns else exists_or_done
     (least_taken pairs (content parts.entries))
 
 -- the reply is the one that is due, or memory was refused where Done is due

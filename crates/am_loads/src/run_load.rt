@@ -8,13 +8,13 @@ ghost use Rattle.am_loads.specs.Loads.{load_due, IsAnswer, IsLoaded};
 use crate::look::{first_live, least_in_final};
 use am_index::PartIndex;
 use am_parts::Parts;
-use am_record::{MAX_RUNS, Refusal, Reply};
+use am_record::{LAST_RUN, Refusal, Reply};
 use am_runs::Run;
 
 /// Makes the run a new partition, all of its pairs live in it, and counts it. The caller sees to it
 /// that no entry stands above partition `runs()`.
 ///
-/// Answers Refused(TooManyRuns) where 65,535 runs were made; else Exists with the least key of the
+/// Answers Refused(TooManyRuns) where 4,294,967,294 runs were made; else Exists with the least key of the
 /// pairs that is live, where one is; else Done. Refused(NoMemory) comes in place of Done alone,
 /// where memory was refused. All but Done leave entries and runs as they were.
 #[inline(never)]
@@ -27,7 +27,7 @@ pub fn load<I: PartIndex + Drop>(parts: &mut Parts<I>, run: &Run) -> Reply
     ensures rooms { KeepRoom parts.old.roomy parts.new.roomy parts.new.entries }
     ensures nothing_above { NothingAbove parts.new.runs parts.new.entries }
 {
-    if parts.runs() == MAX_RUNS {
+    if parts.runs() == LAST_RUN {
         return Reply::Refused(Refusal::TooManyRuns);
     }
     let pairs = run.pairs();

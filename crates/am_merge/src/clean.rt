@@ -34,7 +34,7 @@ pub fn clean_step<I: PartIndex + Drop>(
     ensures content { content parts.new.entries ≡ content parts.old.entries }
 {
     // Asked here, the entries are known to be sound, and each value to have its room.
-    prove!(parts.runs() <= 65535);
+    prove!(parts.runs() <= 4294967294);
     let mut from = (0, range.lo());
     for cleaned in 0..limit {
         let Some(entry) = first_cleanable(parts, locks, range, from) else {

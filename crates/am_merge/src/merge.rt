@@ -48,7 +48,7 @@ pub fn merge_step<I: PartIndex + Drop>(
     ensures content { content parts.new.entries ≡ content parts.old.entries }
 {
     // Asked here, each value is known to have its room.
-    prove!(parts.runs() <= 65535);
+    prove!(parts.runs() <= 4294967294);
     let Some(wish) = wishes.oldest() else {
         return Reply::Idle;
     };

@@ -22,7 +22,7 @@ pub(crate) fn load_pairs<I: PartIndex + Drop>(
     pairs: Records,
 ) -> Result<Reply, NoMemory>
     requires rising { is_rising pairs ≡ true }
-    requires room { parts.old.runs < 65535 }
+    requires room { parts.old.runs < 4294967294 }
     requires above { NothingAbove parts.old.runs parts.old.entries }
     requires values { HaveRoom parts.old.entries parts.old.roomy }
     ensures done { IfOk result (λ reply. IsDone (Load pairs) reply parts.old log.old parts.new log.new) }

@@ -32,7 +32,7 @@ pub fn carry_out<I: PartIndex + Drop>(
     op: Op,
 ) -> Result<Reply, NoMemory>
     requires orderly { is_orderly op ≡ true }
-    requires room { (is_load op && nat_le 65535 parts.old.runs) ≡ false }
+    requires room { (is_load op && nat_le 4294967294 parts.old.runs) ≡ false }
     requires above { NothingAbove parts.old.runs parts.old.entries }
     requires back { CanTakeBack (since_mark log.old.marks log.old.notes) (find parts.old.entries) }
     requires noted { NotesFit parts.old.roomy log.old.notes }

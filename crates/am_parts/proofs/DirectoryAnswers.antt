@@ -10,7 +10,7 @@ use Rattle.am_directory.specs.Tables.{Table, label, residence_of, residence_by, 
 use Rattle.am_directory.specs.Tables.{HasLeft}
 use Rattle.am_directory.specs.declared.residence.Residence.{Residence}
 use Rattle.am_directory.specs.declared.residence.Residence.TheVariants.{Nowhere, In, Unknown}
-use Rattle.am_parts.specs.Residences.{Allows, Tells}
+use Rattle.am_parts.specs.Residences.{Allows, Tells, place_of}
 
 -- nothing is known of any key by a directory that is lost
 lost : (t : Table) (n : ℕ) → t.is_lost ≡ true → residence_of t n ≡ Unknown
@@ -38,11 +38,12 @@ entered_unknown (In q) run part h = refl
 entered_unknown Unknown run part h = refl
 
 -- the run that is entered is allowed
-entered_allows : (r : Residence) (run : ℕ) → Allows (entered r run) run
-entered_allows Nowhere run = elim (nat_le run 65535) as (λ b. Allows (cond b (In run) Unknown) run) [
-  | true ↦ refl
-  | false ↦ tt
-]
+entered_allows : (r : Residence) (run : ℕ) → Allows (entered r (place_of run)) run
+entered_allows Nowhere run = elim (nat_le (place_of run) 65535) as
+    (λ b. Allows (cond b (In (place_of run)) Unknown) run) [
+      | true ↦ refl
+      | false ↦ tt
+    ]
 entered_allows (In q) run = tt
 entered_allows Unknown run = tt
 
@@ -74,12 +75,12 @@ module _ (hash : HashKey) where
     module _ (k : OrderedKey) (p : ℕ) where
       -- one more key is live
       module _ (more : (key : OrderedKey) (part : ℕ) → L' key part → L key part ⊎ ((key ≡ k) × (part ≡ p)))
-          (change : HasEntered t (key_number hash k) p t') where
+          (change : HasEntered t (key_number hash k) (place_of p) t') where
         others_allowed : (key : OrderedKey) (part : ℕ) → L key part → Allows (of t' key) part
         others_allowed key part lives =
             ⊎_elim
             (λ (same : tag key ≡ tag k). allows_unknown (of t' key) part (change.entered (key_number hash key) same ∙
-            entered_unknown (of t key) p part (was.allowed key part lives)))
+            entered_unknown (of t key) (place_of p) part (was.allowed key part lives)))
             (λ (other : tag key ≢ tag k). subst (λ (r : Residence). Allows r part)
             (sym (change.others (key_number hash key) other)) (was.allowed key part lives))
             (cases_eq (tag key) (tag k))
@@ -87,13 +88,13 @@ module _ (hash : HashKey) where
         it_allowed : (key : OrderedKey) (part : ℕ) → key ≡ k → part ≡ p → Allows (of t' key) part
         it_allowed key part same at =
             subst (λ (r : Residence). Allows r part) (sym (change.entered (key_number hash key) (ap tag same)))
-            (subst (λ (q : ℕ). Allows (entered (of t key) p) q) (sym at) (entered_allows (of t key) p))
+            (subst (λ (q : ℕ). Allows (entered (of t key) (place_of p)) q) (sym at) (entered_allows (of t key) p))
 
         -- where something is known of the label of a key that was live before, it isn't the label of the one that
         -- entered
         not_its : (key : OrderedKey) (part : ℕ) → L key part → of t' key ≢ Unknown → tag key ≡ tag k → ⊥
         not_its key part lives known same = known (change.entered (key_number hash key) same ∙
-            entered_unknown (of t key) p part (was.allowed key part lives))
+            entered_unknown (of t key) (place_of p) part (was.allowed key part lives))
 
         pub tells_more : Tells L' hash t'
         tells_more = record {
@@ -122,7 +123,7 @@ module _ (hash : HashKey) where
 
       -- the same where the directory may be lost
       pub tells_entered : ((key : OrderedKey) (part : ℕ) → L' key part → L key part ⊎ ((key ≡ k) × (part ≡ p))) →
-          (t'.is_lost ≡ false → HasEntered t (key_number hash k) p t') → Tells L' hash t'
+          (t'.is_lost ≡ false → HasEntered t (key_number hash k) (place_of p) t') → Tells L' hash t'
       tells_entered more change = ⊎_elim (λ is_lost. tells_lost L' t' is_lost)
           (λ whole. tells_more more (change whole)) (cases_Bool t'.is_lost)
 

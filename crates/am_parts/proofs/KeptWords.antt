@@ -23,7 +23,7 @@ use Rattle.am_index.proofs.Lists.{rising_remove}
 use Rattle.am_parts.specs.Partitions.{AreWellFormed, settled, settled_too, all_settled, IsStretch}
 use Rattle.am_parts.specs.Residences.{LivesInRun, StandsInRun, LivesWith, HasKey, KeepsFor, KeepNoneInVain}
 use Rattle.am_parts.specs.Residences.{KeepNoneWith}
-use Rattle.am_parts.specs.Residences.{HasNoted}
+use Rattle.am_parts.specs.Residences.{HasNoted, place_of}
 use Rattle.am_parts.specs.declared.residences.Residences.{Residences}
 use Rattle.am_parts.proofs.LiveRuns.{place_parts, lives, inserted_finds, reset_finds, removed_finds}
 use Rattle.am_parts.proofs.NotedKeys.{key_at}
@@ -69,10 +69,10 @@ module _ (hash : HashKey) (L L' : OrderedKey → ℕ → Type 0) (E E' : Ordered
       ((sought : ℕ) → (code_of t'.words sought ≡ 0) ⊎ (code_of t'.words sought ≡ code_of t.words sought)) →
       KeepsFor L' E' hash t'
   keeps_on live stand codes = record {
-    named = λ sought run e. ⊎_elim
+    named = λ sought place e. ⊎_elim
         (λ (none : code_of t'.words sought ≡ 0). absurd (omega (arith, none, e)))
         (λ (same : code_of t'.words sought ≡ code_of t.words sought).
-        moved sought (λ key tagged it. live key run it) (was.named sought run (sym same ∙ e)))
+        moved sought (λ key tagged it. (it.0, live key it.0 it.1, it.2)) (was.named sought place (sym same ∙ e)))
         (codes sought);
     asleep = λ sought e. ⊎_elim
         (λ (none : code_of t'.words sought ≡ 0). absurd (omega (arith, none, e)))
@@ -88,26 +88,27 @@ module _ (hash : HashKey) (L L' : OrderedKey → ℕ → Type 0) (E E' : Ordered
     -- the key is live in one run more
     pub keeps_entered : (p : ℕ) → ((key : OrderedKey) (part : ℕ) → L key part → L' key part) →
         ((key : OrderedKey) → E key → E' key) → L' k p →
-        HasCode t (key_number hash k) (IsEntered (code_of t.words (label (key_number hash k))) p) t' →
+        HasCode t (key_number hash k) (IsEntered (code_of t.words (label (key_number hash k))) (place_of p)) t' →
         KeepsFor L' E' hash t'
     unfolding tag
     keeps_entered p live stand lives_now change = record {
-      named = λ sought run e. ⊎_elim
+      named = λ sought place e. ⊎_elim
           (λ (own : sought ≡ tag k).
-          let code : code_of t'.words (tag k) ≡ run + 4 = ap (code_of t'.words) (sym own) ∙ e in
+          let code : code_of t'.words (tag k) ≡ place + 4 = ap (code_of t'.words) (sym own) ∙ e in
           ⊎_elim
           (λ (same : code_of t'.words (tag k) ≡ code_of t.words (tag k)).
-          moved sought (λ key tagged it. live key run it)
-          (was.named sought run (ap (code_of t.words) own ∙ sym same ∙ code)))
+          moved sought (λ key tagged it. (it.0, live key it.0 it.1, it.2))
+          (was.named sought place (ap (code_of t.words) own ∙ sym same ∙ code)))
           (λ changed. ⊎_elim
           (λ (unknown : code_of t'.words (tag k) ≡ 3). absurd (omega (arith, unknown, code)))
-          (λ (its : code_of t'.words (tag k) ≡ p + 4).
-          let is : p ≡ run = omega (arith, its, code) in
-          record { key = k; labelled = sym own; meets = subst (L' k) is lives_now })
+          (λ (its : code_of t'.words (tag k) ≡ place_of p + 4).
+          let is : place_of p ≡ place = omega (arith, its, code) in
+          record { key = k; labelled = sym own; meets = (p, lives_now, is) })
           changed)
           change.now)
           (λ (other : sought ≢ tag k).
-          moved sought (λ key tagged it. live key run it) (was.named sought run (sym (change.others sought other) ∙ e)))
+          moved sought (λ key tagged it. (it.0, live key it.0 it.1, it.2))
+          (was.named sought place (sym (change.others sought other) ∙ e)))
           (cases_eq sought (tag k));
       asleep = λ sought e. ⊎_elim
           (λ (own : sought ≡ tag k).
@@ -118,7 +119,7 @@ module _ (hash : HashKey) (L L' : OrderedKey → ℕ → Type 0) (E E' : Ordered
           (was.asleep sought (ap (code_of t.words) own ∙ sym same ∙ code)))
           (λ changed. ⊎_elim
           (λ (unknown : code_of t'.words (tag k) ≡ 3). absurd (omega (arith, unknown, code)))
-          (λ (its : code_of t'.words (tag k) ≡ p + 4). absurd (omega (arith, its, code)))
+          (λ (its : code_of t'.words (tag k) ≡ place_of p + 4). absurd (omega (arith, its, code)))
           changed)
           change.now)
           (λ (other : sought ≢ tag k).
@@ -133,12 +134,12 @@ module _ (hash : HashKey) (L L' : OrderedKey → ℕ → Type 0) (E E' : Ordered
         KeepsFor L' E' hash t'
     unfolding tag
     keeps_asleep live stand stands change = record {
-      named = λ sought run e. ⊎_elim
+      named = λ sought place e. ⊎_elim
           (λ (own : sought ≡ tag k).
-          absurd (leaves (code_of t.words (tag k)) run (sym change.now ∙ ap (code_of t'.words) (sym own) ∙ e)))
+          absurd (leaves (code_of t.words (tag k)) place (sym change.now ∙ ap (code_of t'.words) (sym own) ∙ e)))
           (λ (other : sought ≢ tag k).
-          moved sought (λ key tagged it. live key run (apart key sought tagged other) it)
-          (was.named sought run (sym (change.others sought other) ∙ e)))
+          moved sought (λ key tagged it. (it.0, live key it.0 (apart key sought tagged other) it.1, it.2))
+          (was.named sought place (sym (change.others sought other) ∙ e)))
           (cases_eq sought (tag k));
       asleep = λ sought e. ⊎_elim
           (λ (own : sought ≡ tag k). record { key = k; labelled = sym own; meets = stands })
@@ -154,13 +155,14 @@ module _ (hash : HashKey) (L L' : OrderedKey → ℕ → Type 0) (E E' : Ordered
         KeepsFor L' E' hash t'
     unfolding tag
     keeps_ghost_gone live stand change = record {
-      named = λ sought run e. ⊎_elim
+      named = λ sought place e. ⊎_elim
           (λ (own : sought ≡ tag k).
-          moved sought (λ key tagged it. live key run it)
-          (was.named sought run (ap (code_of t.words) own ∙
-          let_go_from (code_of t.words (tag k)) run (sym change.now ∙ ap (code_of t'.words) (sym own) ∙ e))))
+          moved sought (λ key tagged it. (it.0, live key it.0 it.1, it.2))
+          (was.named sought place (ap (code_of t.words) own ∙
+          let_go_from (code_of t.words (tag k)) place (sym change.now ∙ ap (code_of t'.words) (sym own) ∙ e))))
           (λ (other : sought ≢ tag k).
-          moved sought (λ key tagged it. live key run it) (was.named sought run (sym (change.others sought other) ∙ e)))
+          moved sought (λ key tagged it. (it.0, live key it.0 it.1, it.2))
+          (was.named sought place (sym (change.others sought other) ∙ e)))
           (cases_eq sought (tag k));
       asleep = λ sought e. ⊎_elim
           (λ (own : sought ≡ tag k).
@@ -179,13 +181,13 @@ module _ (hash : HashKey) (L L' : OrderedKey → ℕ → Type 0) (E E' : Ordered
         KeepsFor L' E' hash t'
     unfolding tag
     keeps_gone mid live stand left let_go = record {
-      named = λ sought run e. ⊎_elim
+      named = λ sought place e. ⊎_elim
           (λ (own : sought ≡ tag k).
-          absurd (leaves (code_of t.words (tag k)) run (sym left.now ∙
-          let_go_from (code_of mid.words (tag k)) run (sym let_go.now ∙ ap (code_of t'.words) (sym own) ∙ e))))
+          absurd (leaves (code_of t.words (tag k)) place (sym left.now ∙
+          let_go_from (code_of mid.words (tag k)) place (sym let_go.now ∙ ap (code_of t'.words) (sym own) ∙ e))))
           (λ (other : sought ≢ tag k).
-          moved sought (λ key tagged it. live key run (apart key sought tagged other) it)
-          (was.named sought run (sym (left.others sought other) ∙ sym (let_go.others sought other) ∙ e)))
+          moved sought (λ key tagged it. (it.0, live key it.0 (apart key sought tagged other) it.1, it.2))
+          (was.named sought place (sym (left.others sought other) ∙ sym (let_go.others sought other) ∙ e)))
           (cases_eq sought (tag k));
       asleep = λ sought e. ⊎_elim
           (λ (own : sought ≡ tag k).
@@ -203,7 +205,7 @@ module _ (hash : HashKey) (L L' : OrderedKey → ℕ → Type 0) (E E' : Ordered
         KeepsFor L' E' hash t'
     unfolding tag
     keeps_unknown_gone live stand none same = record {
-      named = λ sought run e. ⊎_elim
+      named = λ sought place e. ⊎_elim
           (λ (own : sought ≡ tag k). absurd (omega (
             arith,
             none,
@@ -211,8 +213,8 @@ module _ (hash : HashKey) (L L' : OrderedKey → ℕ → Type 0) (E E' : Ordered
                 e,
           )))
           (λ (other : sought ≢ tag k).
-          moved sought (λ key tagged it. live key run (apart key sought tagged other) it)
-          (was.named sought run (sym (same sought) ∙ e)))
+          moved sought (λ key tagged it. (it.0, live key it.0 (apart key sought tagged other) it.1, it.2))
+          (was.named sought place (sym (same sought) ∙ e)))
           (cases_eq sought (tag k));
       asleep = λ sought e. ⊎_elim
           (λ (own : sought ≡ tag k). absurd (omega (

@@ -2,6 +2,7 @@
 use Rattle.std.proofs.Common.{◌≡◌, ◌≢◌, ℕ, zero, suc, ◌+◌, ◌<◌, ◌≤◌, true, false, List, [], ◌∷◌, length, get_or, take}
 use Rattle.std.proofs.Common.{Option, Some, None, refl, sym, ap, ◌∙◌, subst, ⊎_elim, arith}
 use Rattle.std.specs.Prelude.{IsSome, IfSome, IfNone, is_some, ◌==◌}
+use Rattle.std.proofs.Math.Nat.{mod-eq_of_lt}
 use Rattle.std.proofs.lemmas.Bool.{or_cases, cases_eq, eqb-true, true≢false, false≢true}
 use Rattle.std.specs.List.{AllByRecursion}
 use Rattle.std.specs.FinMap.{get}
@@ -14,7 +15,7 @@ use Rattle.am_parts.specs.declared.catalog.OpenRun.{OpenRun}
 use Rattle.am_parts.specs.Catalogs.{parts_of, is_one_of, PartsRise, AreListed}
 use Rattle.am_parts.specs.Partitions.{AreWellFormed, AreEmpty, AreEmptyFrom, LivesIn, LivesInNoRun, IsLiveEntry}
 use Rattle.am_parts.specs.Partitions.{IsVacancy, vacancy_over}
-use Rattle.am_parts.specs.Residences.{LivesInRun}
+use Rattle.am_parts.specs.Residences.{LivesInRun, place_of}
 use Rattle.am_parts.proofs.Lives.{laws_of, lives_in}
 use Rattle.am_parts.proofs.ListedRuns.{is_listed, some_left}
 
@@ -195,6 +196,45 @@ live_in_no_run {es} {n} {runs} key h none = record {
         (λ later. in_list rs part value live none.1 later)
         (or_cases (r.part == part) (is_one_of (parts_of rs) part) one)
 
+-- ---- a look in the runs of a place
+
+-- the key lives in none of the runs
+abbrev pub LivesInNone : List Entry → OrderedKey → List OpenRun → Type 0
+LivesInNone es key rs = AllByRecursion (λ (r : OpenRun). LivesInRun es key r.part → ⊥) rs
+
+pub lives_in_no_run : {es : List Entry} {n : ℕ} {runs : List OpenRun} (key : OrderedKey) → AreListed es n runs →
+    LivesInNone es key runs → LivesInNoRun es key
+lives_in_no_run {es} {n} {runs} key h none = record {
+  none = λ part value some live. in_list runs part (record { is_run = some; value = value; live = live }) none
+      (is_listed h part key some (ap is_some live.there));
+}
+  where
+    in_list : (rs : List OpenRun) (part : ℕ) → LivesInRun es key part → LivesInNone es key rs →
+        is_one_of (parts_of rs) part ≡ true → ⊥
+    in_list [] part it none one = false≢true one
+    in_list (r ∷ rs) part it none one =
+        ⊎_elim
+        (λ here. none.0 (subst (λ (p : ℕ). LivesInRun es key p) (sym (eqb-true r.part part here)) it))
+        (λ later. in_list rs part it none.1 later)
+        (or_cases (r.part == part) (is_one_of (parts_of rs) part) one)
+
+-- where all numbers are below that of places, a place has one
+pub of_first_place : {es : List Entry} {n : ℕ} {runs : List OpenRun} {key : OrderedKey} {last place run : ℕ} →
+    AreListed es n runs → AllByRecursion (λ (r : OpenRun). r.part ≤ last) runs → last < 65536 →
+    LivesInRun es key run → place ≡ place_of run → place ≡ run
+of_first_place {es} {n} {runs} {key} {last} {place} {run} h low few it same =
+    same ∙ mod-eq_of_lt (omega (arith, few, below runs low (is_listed h run key it.is_run (ap is_some it.live.there))))
+  where
+    below : (rs : List OpenRun) → AllByRecursion (λ (r : OpenRun). r.part ≤ last) rs →
+        is_one_of (parts_of rs) run ≡ true → run ≤ last
+    below [] low one = absurd (false≢true one)
+    below (r ∷ rs) low one =
+        ⊎_elim
+        (λ here. let is : r.part ≡ run = eqb-true r.part run here in let le : r.part ≤ last = low.0 in
+        omega (arith, is, le))
+        (λ later. below rs low.1 later)
+        (or_cases (r.part == run) (is_one_of (parts_of rs) run) one)
+
 -- ---- the entry that a look found, or none
 
 -- the entry of what stands live at the place
@@ -217,6 +257,14 @@ module _ {es : List Entry} (sound : AreWellFormed es) (part : ℕ) (key : Ordere
         found_dead part (ap (λ (o : Option Slot). is_some (live_value o)) (sym found) ∙ dead) value
         (subst (λ (p : ℕ). IsLiveAt es p key value) (sym same) live);
   }
+
+-- where it isn't found live in a run, it isn't live there
+pub not_found : (es : List Entry) (part : ℕ) (key : OrderedKey) (slot : Option Slot) → slot ≡ find es part key →
+    (o : Option Entry) → IfNone o (is_some (live_value slot) ≡ false) → IfNone o (LivesInRun es key part → ⊥)
+not_found es part key slot found (Some e) dead = tt
+not_found es part key slot found None dead = λ it.
+    found_dead {es = es} {key = key} part (ap (λ (o : Option Slot). is_some (live_value o)) (sym found) ∙ dead) it.value
+    it.live
 
 -- what is said of an answer that there is, or that there isn't
 pub said_of_some : {A : Type 0} (o : Option A) (P : A → Type 0) → is_some o ≡ true → IfSome o P → (x : A) × P x

@@ -5,6 +5,7 @@ pub mod KeptWords
 pub mod Alive
 pub mod LiveRuns
 pub mod ListedRuns
+pub mod OpenRuns
 pub mod CatalogCalls
 pub mod CountedAtOnce
 pub mod SettledEntries

@@ -1,6 +1,6 @@
 -- What is known of the runs that have entries left, and of how many entries there are.
 use Rattle.std.specs.Prelude.{◌≡◌, ◌+◌, ◌<◌, ◌≤◌, ◌==◌, ℕ, Bool, true, not, List, [], ◌∷◌, map, length, take, drop}
-use Rattle.std.specs.Prelude.{slice_index_or, IsSome, is_some, if◌then◌else◌}
+use Rattle.std.specs.Prelude.{slice_index_or, IsSome, is_some, nat_lt, if◌then◌else◌}
 use Rattle.std.specs.List.{AllByRecursion, list_any}
 use Rattle.am_record.specs.OrderedKey.{OrderedKey}
 use Rattle.am_record.specs.Plain.{Records}
@@ -86,6 +86,15 @@ pub record IsNext (es : List Entry) (part : ℕ) (rs : Records) : Type 0 where
   pub is_run : 0 < part
   pub some : 0 < length rs
   pub above : AllByRecursion (λ e. e.part < part) es
+
+-- how many partitions above the one have entries, of entries that rise
+abbrev pub parts_above : ℕ → List Entry → ℕ
+parts_above part [] = 0
+parts_above part (e ∷ es) = if nat_lt part e.part then 1 + parts_above e.part es else parts_above part es
+
+-- how many runs have entries
+abbrev pub runs_in : List Entry → ℕ
+runs_in es = parts_above 0 es
 
 -- so many runs have entries: there is a rising list of just these
 pub record HasRuns (es : List Entry) (n : ℕ) : Type 0 where

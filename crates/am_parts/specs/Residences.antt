@@ -1,5 +1,5 @@
 -- In which runs keys are live, and what a directory may tell of it.
-use Rattle.std.specs.Prelude.{◌≡◌, ◌≢◌, ◌⊎◌, ◌+◌, ◌<◌, ◌≤◌, ℕ, List, false, get_or, map, IsSome}
+use Rattle.std.specs.Prelude.{◌≡◌, ◌≢◌, ◌⊎◌, ◌+◌, ◌%◌, ◌<◌, ◌≤◌, ℕ, List, false, get_or, map, IsSome}
 use Rattle.am_record.specs.OrderedKey.{OrderedKey}
 use Rattle.am_record.specs.KeyNumber.{key_number}
 use Rattle.am_record.specs.Plain.{Records}
@@ -22,11 +22,19 @@ pub record LivesInRun (es : List Entry) (key : OrderedKey) (part : ℕ) : Type 0
 abbrev pub OneRun : List Entry → Type 0
 OneRun es = (key : OrderedKey) (part part' : ℕ) → LivesInRun es key part → LivesInRun es key part' → part ≡ part'
 
+-- a directory knows a run by the lower 16 bits of its number, its place. Runs whose numbers are 65,536 apart share one
+abbrev pub place_of : ℕ → ℕ
+place_of run = run % 65536
+
+-- the key is live in a run of that place
+abbrev pub LivesAt : (OrderedKey → ℕ → Type 0) → ℕ → OrderedKey → Type 0
+LivesAt Lives place key = (run : ℕ) × Lives key run × (place_of run ≡ place)
+
 -- what is told of a key leaves that it is live in the run
 abbrev pub Allows : Residence → ℕ → Type 0
-Allows Nowhere part = ⊥
-Allows (In run) part = run ≡ part
-Allows Unknown part = Unit {0}
+Allows Nowhere run = ⊥
+Allows (In place) run = place ≡ place_of run
+Allows Unknown run = Unit {0}
 
 -- of the keys that are live in runs: what is told of each allows its run, and where something is known of a label, one
 -- key of it alone is live
@@ -54,11 +62,11 @@ pub record HasKey (hash : HashKey) (sought : ℕ) (Meets : OrderedKey → Type 0
   pub labelled : label (key_number hash key) ≡ sought
   pub meets : Meets key
 
--- no word is kept in vain, but for those of labels of which nothing is known: where one names a run, a key of its label
--- is live in that run, and where one says that none is live, a key of its label has an entry in a run
+-- no word is kept in vain, but for those of labels of which nothing is known: where one names a place, a key of its
+-- label is live in a run of it, and where one says that none is live, a key of its label has an entry in a run
 pub record KeepsFor (Lives : OrderedKey → ℕ → Type 0) (Stands : OrderedKey → Type 0) (hash : HashKey) (t : Table) : Type
     0 where
-  pub named : (sought run : ℕ) → code_of t.words sought ≡ run + 4 → HasKey hash sought (λ key. Lives key run)
+  pub named : (sought place : ℕ) → code_of t.words sought ≡ place + 4 → HasKey hash sought (LivesAt Lives place)
   pub asleep : (sought : ℕ) → code_of t.words sought ≡ 2 → HasKey hash sought Stands
 
 abbrev pub KeepNoneInVain : List Entry → Residences → Type 0
@@ -73,8 +81,9 @@ OthersStay old key new = (sought : ℕ) → sought ≢ label (key_number old.has
 pub record HasNoted (old : Residences) (key : OrderedKey) (part : ℕ) (new : Residences) : Type 0 where
   pub hash : new.hash ≡ old.hash
   pub code : HasCode old.directory (key_number old.hash key)
-      (IsEntered (code_of old.directory.words (label (key_number old.hash key))) part) new.directory
-  pub entered : new.directory.is_lost ≡ false → HasEntered old.directory (key_number old.hash key) part new.directory
+      (IsEntered (code_of old.directory.words (label (key_number old.hash key))) (place_of part)) new.directory
+  pub entered : new.directory.is_lost ≡ false →
+      HasEntered old.directory (key_number old.hash key) (place_of part) new.directory
 
 -- there is room for so many live keys more
 abbrev pub HasRoomFor : Residences → ℕ → Type 0

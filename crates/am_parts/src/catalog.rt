@@ -8,11 +8,12 @@ ghost use Rattle.std.specs.List.{AllByRecursion};
 ghost use Rattle.am_record.specs.OrderedKey.{OrderedKey};
 ghost use Rattle.am_record.specs.Plain.{Records};
 ghost use Rattle.am_record.specs.declared.entry.Entry.{Entry};
-ghost use Rattle.am_index.specs.Entries.{find, insert_entry, all_inserted, set_entry, remove_entry};
+ghost use Rattle.am_index.specs.Entries.{find, insert_entry, all_inserted, set_entry, remove_entry, IsRising};
 ghost use Rattle.am_index.specs.Content.{live_value};
 ghost use Rattle.am_index.specs.Runs.{run_entries};
 ghost use Rattle.am_parts.specs.GoingHome.{IsHome};
 ghost use Rattle.am_parts.specs.Catalogs.{parts_of, PartsRise, IsRunAt, IsGapAt, HasCounted, HasMore, IsNext};
+ghost use Rattle.am_parts.specs.Catalogs.{runs_in};
 
 use crate::figures::Figures;
 use am_record::NoMemory;
@@ -77,6 +78,24 @@ impl Catalog {
         ensures { result.now ≡ self.now.runs.items }
     {
         &self.runs
+    }
+
+    /// The last run that has entries left, 0 where none has.
+    pub(crate) fn last_run(&self) -> u32
+        requires { PartsRise (parts_of self.now.runs.items) }
+        ensures { AllByRecursion (λ r. r.part ≤ result) self.now.runs.items }
+    {
+        match self.runs.last() {
+            Some(run) => run.part,
+            None => 0,
+        }
+    }
+
+    /// How many runs have entries left.
+    pub(crate) fn open_runs(&self) -> usize
+        ensures { (es : List Entry) → IsRising es → IsCatalog es self.now → result ≡ runs_in es }
+    {
+        self.runs().len()
     }
 
     /// How many entries there are.

@@ -10,7 +10,7 @@ ghost use Rattle.am_index.specs.Entries.{entry_at, insert_entry, set_entry, remo
 ghost use Rattle.am_index.specs.Rooms.{HasRoom, HaveRoom, KeepRoom};
 ghost use Rattle.am_index.specs.Runs.{run_entries};
 ghost use Rattle.am_index.specs.Content.{content, rows_in, live_value, HasContent};
-ghost use Rattle.am_parts.specs.Catalogs.{IsCatalog};
+ghost use Rattle.am_parts.specs.Catalogs.{IsCatalog, runs_in};
 ghost use Rattle.am_parts.specs.MergedRanges.{HasNoneBefore};
 ghost use Rattle.am_parts.specs.Partitions.{vacancy_over, NoneLiveIn, AreAllAbsent};
 
@@ -80,7 +80,7 @@ impl<I: PartIndex + Drop> Model for Parts<I> {
 
     ghost view = { λ p. record { entries = I.entries p.index; runs = p.runs; roomy = I.roomy p.index } };
 
-    ghost invariant = { λ p. AreWellFormed (I.entries p.index) × (p.runs ≤ 65535) ×
+    ghost invariant = { λ p. AreWellFormed (I.entries p.index) × (p.runs ≤ 4294967294) ×
         IsCatalog (I.entries p.index) p.catalog × AreResidences (I.entries p.index) p.residences ×
         AreMerged (I.entries p.index) p.runs p.merged.list.items × HaveRoom (I.entries p.index) (I.roomy p.index) ×
         KeepNoneInVain (I.entries p.index) p.residences };
@@ -110,14 +110,22 @@ impl<I: PartIndex + Drop> Parts<I> {
         }
     }
 
-    /// How many runs were made, 65,535 at most.
+    /// How many runs were made, 4,294,967,294 at most.
     pub fn runs(&self) -> u32
         ensures runs { result ≡ self.now.runs }
-        ensures limit { result ≤ 65535 }
+        ensures limit { result ≤ 4294967294 }
         ensures sound { AreWellFormed self.now.entries }
         ensures room { HaveRoom self.now.entries self.now.roomy }
     {
         self.runs
+    }
+
+    /// How many runs have entries. The index isn't searched.
+    pub fn open_runs(&self) -> usize
+        ensures counted { result ≡ runs_in self.now.entries }
+        ensures sound { AreWellFormed self.now.entries }
+    {
+        self.catalog.open_runs()
     }
 
     /// The value that stands under a partition and key, and whether it is a ghost. Where the final partition is empty,
@@ -387,9 +395,9 @@ impl<I: PartIndex + Drop> Parts<I> {
             .note(range, first_run.min(next_run), first_run >= next_run);
     }
 
-    /// Counts one more run. The caller sees to it that fewer than 65,535 were made.
+    /// Counts one more run. The caller sees to it that fewer than 4,294,967,294 were made.
     pub fn count_run(&mut self)
-        requires { self.old.runs < 65535 }
+        requires { self.old.runs < 4294967294 }
         ensures runs { self.new.runs ≡ self.old.runs + 1 }
         ensures entries { self.new.entries ≡ self.old.entries }
         ensures rooms { self.new.roomy ≡ self.old.roomy }
@@ -398,15 +406,15 @@ impl<I: PartIndex + Drop> Parts<I> {
     }
 
     /// Makes the records the next run, all of them live in it, and counts it. The caller sees to it that fewer than
-    /// 65,535 runs were made, that no entry stands above them, that there is a record, that the records rise, and that
-    /// none of their keys is live in the final partition. Each key costs one probe of a hash table, and where one of
-    /// its label may be live in a run, a descent.
+    /// 4,294,967,294 runs were made, that no entry stands above them, that there is a record, that the records
+    /// rise, and that none of their keys is live in the final partition. Each key costs one probe of a hash table, and
+    /// where one of its label may be live in a run, a descent.
     ///
     /// # Errors
     /// Taken, where one of the keys is live in a run; NoMemory, where memory was refused. Entries and runs are as
     /// before.
     pub fn append_run(&mut self, pairs: &[(Key, Value)]) -> Result<(), RunFault>
-        requires room { self.old.runs < 65535 }
+        requires room { self.old.runs < 4294967294 }
         requires above { AllByRecursion (λ e. e.part ≤ self.old.runs) self.old.entries }
         requires rising { is_rising pairs.now ≡ true }
         requires in_final { NoneLiveIn self.old.entries 0 pairs.now }

@@ -23,8 +23,11 @@ use std::alloc::Global;
 /// For how many keys looks are begun at once.
 pub(crate) const AHEAD: usize = 16;
 
-/// In which run each key is live, as far as it is known. Keys are known by their numbers, and the numbers are made by a
-/// hash key, on which no answer depends.
+/// How many places there are. The place of a run is its number modulo these.
+pub(crate) const PLACES: u32 = 65_536;
+
+/// In which run each key is live, as far as it is known. The directory knows a run by its place. Keys are known by
+/// their numbers, and the numbers are made by a hash key, on which no answer depends.
 #[derive(Drop)]
 pub(crate) struct Residences {
     directory: Directory,
@@ -78,7 +81,7 @@ impl Residences {
     {
         if entry.part > 0 && !entry.is_ghost {
             self.directory
-                .enter(entry.key.number(self.hash), entry.part);
+                .enter(entry.key.number(self.hash), entry.part % PLACES);
         }
     }
 
@@ -98,7 +101,7 @@ impl Residences {
         if is_ghost {
             self.directory.leave(number);
         } else {
-            self.directory.enter(number, part);
+            self.directory.enter(number, part % PLACES);
         }
     }
 
@@ -170,7 +173,7 @@ impl Residences {
         ensures lost { self.old.directory.is_lost ≡ false → self.new.directory.is_lost ≡ false }
         ensures room { (keys : ℕ) → HasRoomFor self.old (keys + 1) → HasRoomFor self.new keys }
     {
-        self.directory.enter_first(number, part)
+        self.directory.enter_first(number, part % PLACES)
     }
 
     /// Notes that the key of a number, for which room was got, is live in the run, where others of its label may be.
@@ -182,7 +185,7 @@ impl Residences {
         ensures lost { self.old.directory.is_lost ≡ false → self.new.directory.is_lost ≡ false }
         ensures room { (keys : ℕ) → HasRoomFor self.old (keys + 1) → HasRoomFor self.new keys }
     {
-        self.directory.enter(number, part);
+        self.directory.enter(number, part % PLACES);
     }
 
     /// Notes that the keys of records, which were entered for a run, are not live in it. Takes no memory.

@@ -29,9 +29,13 @@ max_locks = 256
 abbrev pub max_rows : ℕ
 max_rows = 1000
 
--- the most runs that are ever made
+-- the most runs that have entries at once, and the most that are ever made by a store that isn't told another number
 abbrev pub max_runs : ℕ
 max_runs = 65535
+
+-- the greatest number that a run may have
+abbrev pub last_run : ℕ
+last_run = 4294967294
 
 -- the most records of a run that is cut from records in any order, and of those that lines stage for one load
 abbrev pub max_run_records : ℕ

@@ -1,6 +1,6 @@
 -- The refusals of an operation: those that are due before its lock is asked for, and those of the lock.
 use Rattle.std.specs.Prelude.{ℕ, nat_le, length, List, Bool, true, false, cond, not, ◌&&◌, Option, Some, None}
-use Rattle.am_record.specs.Limits.{max_limit, max_locks, max_ops, max_rows, max_runs}
+use Rattle.am_record.specs.Limits.{max_limit, max_locks, max_ops, max_rows}
 use Rattle.am_record.specs.Locks.{is_covered}
 use Rattle.am_record.specs.Plain.{is_orderly}
 use Rattle.am_record.specs.declared.lock.Lock.{Lock}
@@ -24,14 +24,14 @@ is_load (Load pairs) = true
 is_load _ = false
 
 -- the refusal of an operation that is due before its lock is asked for: by whether the transaction is active, how many
--- operations it was answered, and how many runs were made
-abbrev pub refusal_before_lock : Bool → ℕ → ℕ → Op → Option Refusal
-refusal_before_lock is_active ops runs op =
+-- operations it was answered, and whether no further run may be made
+abbrev pub refusal_before_lock : Bool → ℕ → Bool → Op → Option Refusal
+refusal_before_lock is_active ops is_full op =
     cond (not is_active) (Some NoSuchTx)
     (cond (nat_le max_ops ops) (Some TooManyOps)
     (cond (not (is_orderly op)) (Some NotRising)
     (cond (not (is_bounded op)) (Some BadLimit)
-    (cond (is_load op && nat_le max_runs runs) (Some TooManyRuns)
+    (cond (is_load op && is_full) (Some TooManyRuns)
     None))))
 
 -- whether the lock would be added to as many held ones as there may be

@@ -20,7 +20,7 @@ pub use laws::{
     fronts_follow_keys, keys_are_ordered, ranges_are_sets_of_keys, shared_is_compatible_with_shared,
 };
 pub use limits::{
-    MAX_ACTIVE, MAX_BEGUN, MAX_KEY_LEN, MAX_LOCKS, MAX_OPS, MAX_RUN_RECORDS, MAX_RUNS,
+    LAST_RUN, MAX_ACTIVE, MAX_BEGUN, MAX_KEY_LEN, MAX_LOCKS, MAX_OPS, MAX_RUN_RECORDS, MAX_RUNS,
     MAX_VALUE_LEN, SHORT_LEN,
 };
 pub use lock::{Lock, Mode};

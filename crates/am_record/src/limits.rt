@@ -25,8 +25,11 @@ pub const MAX_LOCKS: usize = 256;
 /// The most rows that a scan may ask for.
 pub(crate) const MAX_ROWS: u64 = 1000;
 
-/// The most runs that are ever made.
+/// The most runs that have entries at once, and the most that are ever made by a store that isn't told another number.
 pub const MAX_RUNS: u32 = 65_535;
+
+/// The greatest number that a run may have.
+pub const LAST_RUN: u32 = 4_294_967_294;
 
 /// The most records of a run that is cut from records in any order, and of those that wait for one load.
 pub const MAX_RUN_RECORDS: usize = 65_536;

@@ -8,7 +8,7 @@ ghost use Rattle.am_record.specs.Plain.{is_orderly, is_rising};
 ghost use Rattle.am_record.specs.Refusals.{is_bounded, is_limit, is_load, refusal_before_lock};
 
 use crate::key::Key;
-use crate::limits::{MAX_LIMIT, MAX_OPS, MAX_ROWS, MAX_RUNS};
+use crate::limits::{MAX_LIMIT, MAX_OPS, MAX_ROWS};
 use crate::lock::Lock;
 use crate::memory::NoMemory;
 use crate::range::Range;
@@ -94,7 +94,7 @@ pub enum Refusal {
     TooManyLocks,
     /// 4,096 operations of the transaction were answered.
     TooManyOps,
-    /// 65,535 runs were made.
+    /// As many runs were made as may be, or 65,535 have entries.
     TooManyRuns,
     /// The pairs of a load don't rise strictly by key, or there are none.
     NotRising,
@@ -152,9 +152,9 @@ impl Op {
     }
 
     /// The refusal that is due before the lock is asked for: by whether the transaction is active, how many operations
-    /// it was answered, and how many runs were made.
-    pub fn refusal(&self, is_active: bool, ops: u64, runs: u32) -> Option<Refusal>
-        ensures { result ≡ refusal_before_lock is_active ops runs self.now }
+    /// it was answered, and whether no further run may be made.
+    pub fn refusal(&self, is_active: bool, ops: u64, is_full: bool) -> Option<Refusal>
+        ensures { result ≡ refusal_before_lock is_active ops is_full self.now }
     {
         if !is_active {
             return Some(Refusal::NoSuchTx);
@@ -168,7 +168,7 @@ impl Op {
         if !self.is_bounded() {
             return Some(Refusal::BadLimit);
         }
-        if self.is_load() && runs >= MAX_RUNS {
+        if self.is_load() && is_full {
             return Some(Refusal::TooManyRuns);
         }
         None

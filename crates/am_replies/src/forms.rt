@@ -1,6 +1,6 @@
 //! The form of replies, by what the lines before make.
 
-ghost use Rattle.std.specs.Prelude.{◌≡◌, ◌↔◌, length, IsTrue};
+ghost use Rattle.std.specs.Prelude.{◌≡◌, ◌↔◌, ℕ, length, IsTrue};
 ghost use Rattle.am_record.specs.declared.step.Step.TheVariants.{Begin, Commit, Abort, Merge, Clean};
 ghost use Rattle.am_serial.specs.Machine.{State, May, is_open};
 
@@ -11,7 +11,7 @@ pub fn may_begin(begun: u64, active: usize, reply: &Reply) -> bool
     ghost s: { State }
     requires begun { begun ≡ s.begun }
     requires active { active ≡ length s.active }
-    ensures { IsTrue result ↔ May s Begin reply.now }
+    ensures { (most_runs : ℕ) → IsTrue result ↔ May most_runs s Begin reply.now }
 {
     let is_full = active >= MAX_ACTIVE || begun >= MAX_BEGUN;
     match reply {
@@ -26,7 +26,7 @@ pub fn may_commit(is_active: bool, commits: u64, tx: u64, reply: &Reply) -> bool
     ghost s: { State }
     requires active { is_active ≡ is_open s.active tx }
     requires commits { commits ≡ s.commits }
-    ensures { IsTrue result ↔ May s (Commit tx) reply.now }
+    ensures { (most_runs : ℕ) → IsTrue result ↔ May most_runs s (Commit tx) reply.now }
 {
     match reply {
         Reply::Committed(commit) => is_active && commit.checked_sub(1) == Some(commits),
@@ -39,7 +39,7 @@ pub fn may_commit(is_active: bool, commits: u64, tx: u64, reply: &Reply) -> bool
 pub fn may_abort(is_active: bool, tx: u64, reply: &Reply) -> bool
     ghost s: { State }
     requires { is_active ≡ is_open s.active tx }
-    ensures { IsTrue result ↔ May s (Abort tx) reply.now }
+    ensures { (most_runs : ℕ) → IsTrue result ↔ May most_runs s (Abort tx) reply.now }
 {
     match reply {
         Reply::Aborted => is_active,
@@ -52,7 +52,7 @@ pub fn may_abort(is_active: bool, tx: u64, reply: &Reply) -> bool
 pub fn may_merge(runs: u32, limit: u64, reply: &Reply) -> bool
     ghost s: { State }
     requires { runs ≡ s.runs }
-    ensures { IsTrue result ↔ May s (Merge limit) reply.now }
+    ensures { (most_runs : ℕ) → IsTrue result ↔ May most_runs s (Merge limit) reply.now }
 {
     match reply {
         Reply::Moved(n, run) => {
@@ -68,7 +68,7 @@ pub fn may_merge(runs: u32, limit: u64, reply: &Reply) -> bool
 /// Whether the reply may be that of a Clean.
 pub fn may_clean(range: Range, limit: u64, reply: &Reply) -> bool
     ghost s: { State }
-    ensures { IsTrue result ↔ May s (Clean range limit) reply.now }
+    ensures { (most_runs : ℕ) → IsTrue result ↔ May most_runs s (Clean range limit) reply.now }
 {
     let _range = range;
     match reply {

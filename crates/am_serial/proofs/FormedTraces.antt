@@ -1,5 +1,5 @@
 -- What a formed trace makes, whether or not its answers are right.
-use Rattle.std.proofs.Common.{◌≡◌, ◌≢◌, ℕ, ◌+◌, ◌<◌, List, [], ◌∷◌, ◌++◌, length, map, true, false, refl, sym, ap}
+use Rattle.std.proofs.Common.{◌≡◌, ◌≢◌, ℕ, ◌+◌, ◌<◌, List, [], ◌∷◌, ◌++◌, length, map, Bool, true, false, refl, sym, ap}
 use Rattle.std.proofs.Common.{◌∙◌, subst, ⊎_elim, Option, Some, None, arith, append_assoc, length-append}
 use Rattle.std.specs.Prelude.{◌==◌, ◌↔◌}
 use Rattle.std.specs.FinMap.{empty}
@@ -18,7 +18,7 @@ use Rattle.am_serial.specs.Trace.{Trace, Answered, Effect, Begins, Answers, Comm
 use Rattle.am_serial.specs.Trace.{effect_of_do, effects, ops_of, left_by_bodies, IsSerial, IsAnsweredAlone}
 use Rattle.am_serial.specs.Trace.{AreAnsweredInTurn}
 use Rattle.am_record.specs.Refusals.{is_one_too_many}
-use Rattle.am_serial.specs.Machine.{State, start, due_early, locks_in, next, after_run, state_at}
+use Rattle.am_serial.specs.Machine.{State, start, is_full, due_early, locks_in, next, after_run, state_at}
 use Rattle.am_serial.specs.Sound.{FormedAt, FormedDo, EachEvent}
 use Rattle.am_serial.specs.FormedTraces.{IsFormed, IsNextInOrder, FormedLaws}
 use Rattle.am_serial.proofs.Views.{View, view_of, view_of-push, push, among, active_in, active_parts, committed_in}
@@ -128,19 +128,22 @@ fits_answer : (v : View) (t : ℕ) (op : Op) (reply : Reply) → among (active_i
 fits_answer v t op (Refused why) on = tt
 fits_answer v t op _ on = on
 
-fits_do : (es : List Effect) (t : ℕ) (op : Op) (reply : Reply) (early : Option Refusal) →
-    due_early (state_at es) t op ≡ early → FormedDo early
+fits_do : (full : Bool) (es : List Effect) (t : ℕ) (op : Op) (reply : Reply) (early : Option Refusal) →
+    due_early full (state_at es) t op ≡ early → FormedDo early
     (is_one_too_many (locks_in (state_at es).active t) (lock_of op))
     op reply → Fits (view_of es) (effect_of_do t op reply)
-fits_do es t op reply (Some why) is f = subst (λ r. Fits (view_of es) (effect_of_do t op r)) (sym f) tt
-fits_do es t op reply None is f = fits_answer (view_of es) t op reply (active_early es t op is)
+fits_do full es t op reply (Some why) is f = subst (λ r. Fits (view_of es) (effect_of_do t op r)) (sym f) tt
+fits_do full es t op reply None is f = fits_answer (view_of es) t op reply (active_early full es t op is)
 
-fits : (es : List Effect) (step : Step) (reply : Reply) → FormedAt es step reply → Fits (view_of es) (effect step reply)
-fits es Begin (Begun t) h = h.0
-fits es (Do t op) reply h = fits_do es t op reply (due_early (state_at es) t op) refl h
-fits es (Commit t) (Committed c) h = sym (is_open-with_body (view_of es).body (active_in (view_of es)) t) ∙ h.0
-fits es (Abort t) Aborted h = sym (is_open-with_body (view_of es).body (active_in (view_of es)) t) ∙ h
-fits es _ _ h = tt
+fits : (most_runs : ℕ) (es : List Effect) (step : Step) (reply : Reply) → FormedAt most_runs es step reply →
+    Fits (view_of es) (effect step reply)
+fits most_runs es Begin (Begun t) h = h.0
+fits most_runs es (Do t op) reply h = fits_do (is_full most_runs (state_at es).runs reply) es t op reply
+    (due_early (is_full most_runs (state_at es).runs reply) (state_at es) t op) refl h
+fits most_runs es (Commit t) (Committed c) h = sym (is_open-with_body (view_of es).body (active_in (view_of es)) t) ∙
+    h.0
+fits most_runs es (Abort t) Aborted h = sym (is_open-with_body (view_of es).body (active_in (view_of es)) t) ∙ h
+fits most_runs es _ _ h = tt
 
 -- ---- whole traces
 
@@ -148,25 +151,26 @@ record Follows (es : List Effect) (s : State) : Type 0 where
   kept : Numbered (view_of es)
   is : s ≡ state_of (view_of es)
 
-step_follows : (es : List Effect) (s : State) (e : Event) → Follows es s → FormedAt es e.0 e.1 →
+step_follows : (most_runs : ℕ) (es : List Effect) (s : State) (e : Event) → Follows es s →
+    FormedAt most_runs es e.0 e.1 →
     Follows (es ++ effect e.0 e.1 ∷ []) (next s (effect e.0 e.1))
-step_follows es s e f formed =
+step_follows most_runs es s e f formed =
     let v = view_of es in
     let change = effect e.0 e.1 in
-    let fit = fits es e.0 e.1 formed in
+    let fit = fits most_runs es e.0 e.1 formed in
     record {
       kept = subst Numbered (sym (view_of-push es change)) (push_numbered v change f.kept fit);
       is = ap (λ x. next x change) f.is ∙ sym (state_pushed v change f.kept fit) ∙
           ap state_of (sym (view_of-push es change));
     }
 
-trace_follows : (trace : Trace) (es : List Effect) (s : State) → Follows es s → EachEvent FormedAt es trace →
-    Follows (es ++ effects trace) (after_run s trace)
-trace_follows [] es s f r = subst (λ l. Follows l s) (sym (append-nil es)) f
-trace_follows (e ∷ trace) es s f r =
+trace_follows : (most_runs : ℕ) (trace : Trace) (es : List Effect) (s : State) → Follows es s →
+    EachEvent (FormedAt most_runs) es trace → Follows (es ++ effects trace) (after_run s trace)
+trace_follows most_runs [] es s f r = subst (λ l. Follows l s) (sym (append-nil es)) f
+trace_follows most_runs (e ∷ trace) es s f r =
     let change = effect e.0 e.1 in
     subst (λ l. Follows l (after_run (next s change) trace)) (append_assoc es (change ∷ []) (effects trace))
-    (trace_follows trace (es ++ change ∷ []) (next s change) (step_follows es s e f r.0) r.1)
+    (trace_follows most_runs trace (es ++ change ∷ []) (next s change) (step_follows most_runs es s e f r.0) r.1)
 
 none_numbered : Numbered none
 none_numbered = record { fresh = λ t h. (refl, refl, refl); rising = tt; closed = λ t h. absurd (cc) }
@@ -220,14 +224,15 @@ serial_law es e num fit serial =
     (subst (λ v. SerialIn v ↔ NextIn (view_of es) e) (sym (view_of-push es e))
     (serial_in (view_of es) e num fit serial))
 
-pub formed_laws : (trace : Trace) → IsFormed trace → FormedLaws trace
-formed_laws trace formed =
-    let f = trace_follows trace [] start (record { kept = none_numbered; is = refl }) formed in
+pub formed_laws : (most_runs : ℕ) (trace : Trace) → IsFormed most_runs trace → FormedLaws most_runs trace
+formed_laws most_runs trace formed =
+    let f = trace_follows most_runs trace [] start (record { kept = none_numbered; is = refl }) formed in
     let es = effects trace in
     record {
       state = sym f.is;
       bodies = λ t on. body_in-with_body (view_of es).body (active_in (view_of es)) t
           (sym (is_open-with_body (view_of es).body (active_in (view_of es)) t) ∙ on);
       least = λ t op h. (least_is_blocker es f.kept.rising t op h, blocker_is_least es f.kept.rising t op h);
-      serial = λ step reply here serial. serial_law es (effect step reply) f.kept (fits es step reply here) serial;
+      serial = λ step reply here serial. serial_law es (effect step reply) f.kept (fits most_runs es step reply here)
+          serial;
     }

@@ -1,5 +1,5 @@
 -- What one step does to each transaction, whatever the state.
-use Rattle.std.proofs.Common.{◌≡◌, ℕ, List, [], ◌∷◌, ◌++◌, refl, sym, ap, ◌∙◌}
+use Rattle.std.proofs.Common.{◌≡◌, ℕ, List, [], ◌∷◌, ◌++◌, false, refl, sym, ap, ◌∙◌}
 use Rattle.std.specs.Prelude.{not}
 use Rattle.std.proofs.lemmas.Bool.{not-false}
 use Rattle.std.proofs.lemmas.List.{map-append}
@@ -41,7 +41,7 @@ begun t u txs = of_number-push_none number own [] txs (t, []) u refl
 pub step_laws : (s : State) → StepLaws s
 step_laws s = record {
   granted = λ t op none_due.
-      let both = none_of_both (due_early s t op) (due_lock s t op) none_due in
+      let both = none_of_both (due_early false s t op) (due_lock s t op) none_due in
       let first = none_of_first (not (is_open s.active t)) NoSuchTx _ both.0 in
       record {
         is_active = not-false (is_open s.active t) first.0;

@@ -8,7 +8,8 @@ use Rattle.std.proofs.lemmas.Cmp.{nat_eq_equiv}
 use Rattle.std.proofs.lemmas.List.{append-nil, map-append}
 use Rattle.std.proofs.lemmas.List.Elements.{filter-append}
 use Rattle.am_record.specs.declared.step.Refusal.{Refusal}
-use Rattle.am_record.specs.declared.step.Refusal.TheVariants.{NoSuchTx, TooManyTx, TooManyOps, NotRising, NoMemory}
+use Rattle.am_record.specs.declared.step.Refusal.TheVariants.{NoSuchTx, TooManyTx, TooManyOps, TooManyRuns}
+use Rattle.am_record.specs.declared.step.Refusal.TheVariants.{NotRising, BadLimit, NoMemory}
 use Rattle.am_record.specs.declared.lock.Lock.{Lock}
 use Rattle.am_record.specs.declared.step.Op.{Op}
 use Rattle.am_record.specs.declared.step.Op.TheVariants.{Get, Insert, Replace, Delete, Load, Back}
@@ -27,9 +28,9 @@ use Rattle.am_record.proofs.Owners as owners
 use Rattle.am_record.specs.Events.{Event}
 use Rattle.am_serial.specs.Trace.{Trace, Answered, Effect, Begins, Answers, Commits, Aborts, Nothing, effect}
 use Rattle.am_serial.specs.Trace.{effect_of_do, effects, ops_of, left_by_bodies}
-use Rattle.am_record.specs.Refusals.{or_else, lock_refusal}
+use Rattle.am_record.specs.Refusals.{is_load, or_else, lock_refusal}
 use Rattle.am_serial.specs.Machine.{State, Transaction, start, is_open, locks_in, view, blocker, due_early, due_lock}
-use Rattle.am_serial.specs.Machine.{due, May, extended, without_transaction, next, Runs, after_run}
+use Rattle.am_serial.specs.Machine.{is_full, due, May, extended, without_transaction, next, Runs, after_run}
 use Rattle.am_serial.proofs.Views.{View, view_of, view_of-push, push, among, active_in, committed_in, with_body}
 use Rattle.am_serial.proofs.Views.{state_of, is_open-with_body, body_in-with_body}
 use Rattle.am_serial.proofs.Serial.{Inv, MayAnswer, MayBe, push_inv, none, none_inv, same_committed_bodies}
@@ -189,11 +190,11 @@ answer_is_answer t Back d = at_saved d.saved
 answer_is_answer t op d = refl
 
 -- the operation is granted
-pub may_answer : (v : View) (t : ℕ) (op : Op) → due (state_of v) t op ≡ None →
+pub may_answer : (v : View) (t : ℕ) (op : Op) → due false (state_of v) t op ≡ None →
     MayAnswer v t op (answer op (view (state_of v) t))
 may_answer v t op none_due =
     let s = state_of v in
-    let both = none_of_both (due_early s t op) (due_lock s t op) none_due in
+    let both = none_of_both (due_early false s t op) (due_lock s t op) none_due in
     let open_ = none_of_first (not (is_open s.active t)) NoSuchTx _ both.0 in
     let few = none_of_first _ TooManyOps _ open_.1 in
     let rising = none_of_first (not (is_orderly op)) NotRising _ few.1 in
@@ -205,25 +206,46 @@ may_answer v t op none_due =
       answered = ap (answer op) (view-state_of v t on);
     }
 
-do_may_be : (v : View) (t : ℕ) (op : Op) (reply : Reply) (d : Option Refusal) → due (state_of v) t op ≡ d →
-    MatchOption d ((reply ≡ answer op (view (state_of v) t)) ⊎ (reply ≡ Refused NoMemory))
+-- whether a further run may be made refuses no operation that is granted
+pub none_without : (full : Bool) (s : State) (t : ℕ) (op : Op) → due full s t op ≡ None → due false s t op ≡ None
+none_without false s t op h = h
+none_without true s t op h = at _ _ _ _ (is_load op) (due_lock s t op) h
+  where
+    at : (a b c d load : Bool) (later : Option Refusal) → or_else (cond a (Some NoSuchTx) (cond b (Some TooManyOps)
+        (cond c (Some NotRising) (cond d (Some BadLimit) (cond (load && true) (Some TooManyRuns) None))))) later ≡
+        None →
+        or_else (cond a (Some NoSuchTx) (cond b (Some TooManyOps) (cond c (Some NotRising) (cond d (Some BadLimit)
+        (cond (load && false) (Some TooManyRuns) None))))) later ≡ None
+    at true b c d load later k = absurd (cc)
+    at false true c d load later k = absurd (cc)
+    at false false true d load later k = absurd (cc)
+    at false false false true load later k = absurd (cc)
+    at false false false false true later k = absurd (cc)
+    at false false false false false later k = k
+
+do_may_be : (full : Bool) (v : View) (t : ℕ) (op : Op) (reply : Reply) (d : Option Refusal) →
+    due full (state_of v) t op ≡ d → MatchOption d ((reply ≡ answer op (view (state_of v) t)) ⊎
+    (reply ≡ Refused NoMemory))
     (λ why. reply ≡ Refused why) →
     MayBe v (effect_of_do t op reply)
-do_may_be v t op reply (Some why) is h = subst (λ r. MayBe v (effect_of_do t op r)) (sym h) tt
-do_may_be v t op reply None is h =
+do_may_be full v t op reply (Some why) is h = subst (λ r. MayBe v (effect_of_do t op r)) (sym h) tt
+do_may_be full v t op reply None is h =
     ⊎_elim
     (λ e. subst (λ r. MayBe v (effect_of_do t op r)) (sym e)
-    (subst (MayBe v) (sym (answer_is_answer t op (view (state_of v) t))) (may_answer v t op is)))
+    (subst (MayBe v) (sym (answer_is_answer t op (view (state_of v) t)))
+    (may_answer v t op (none_without full (state_of v) t op is))))
     (λ e. subst (λ r. MayBe v (effect_of_do t op r)) (sym e) tt)
     h
 
-pub may_be : (v : View) (step : Step) (reply : Reply) → May (state_of v) step reply → MayBe v (effect step reply)
-may_be v Begin (Begun t) h = h.0
-may_be v Begin (Refused TooManyTx) h = tt
-may_be v (Do t op) reply h = do_may_be v t op reply (due (state_of v) t op) refl h
-may_be v (Commit t) (Committed c) h = sym (is_open-with_body v.body (active_in v) t) ∙ h.0
-may_be v (Abort t) Aborted h = sym (is_open-with_body v.body (active_in v) t) ∙ h
-may_be v _ _ h = tt
+pub may_be : (most_runs : ℕ) (v : View) (step : Step) (reply : Reply) → May most_runs (state_of v) step reply →
+    MayBe v (effect step reply)
+may_be most_runs v Begin (Begun t) h = h.0
+may_be most_runs v Begin (Refused TooManyTx) h = tt
+may_be most_runs v (Do t op) reply h = do_may_be (is_full most_runs (state_of v).runs reply) v t op reply
+    (due (is_full most_runs (state_of v).runs reply) (state_of v) t op) refl h
+may_be most_runs v (Commit t) (Committed c) h = sym (is_open-with_body v.body (active_in v) t) ∙ h.0
+may_be most_runs v (Abort t) Aborted h = sym (is_open-with_body v.body (active_in v) t) ∙ h
+may_be most_runs v _ _ h = tt
 
 -- ---- whole runs
 
@@ -231,25 +253,27 @@ pub record Follows (es : List Effect) (s : State) : Type 0 where
   pub kept : Inv (view_of es)
   pub is : s ≡ state_of (view_of es)
 
-pub step_follows : (es : List Effect) (s : State) (e : Event) → Follows es s → May s e.0 e.1 →
+pub step_follows : (most_runs : ℕ) (es : List Effect) (s : State) (e : Event) → Follows es s → May most_runs s e.0 e.1 →
     Follows (es ++ effect e.0 e.1 ∷ []) (next s (effect e.0 e.1))
-step_follows es s e f m =
+step_follows most_runs es s e f m =
     let v = view_of es in
     let change = effect e.0 e.1 in
-    let may = may_be v e.0 e.1 (subst (λ x. May x e.0 e.1) f.is m) in
+    let may = may_be most_runs v e.0 e.1 (subst (λ x. May most_runs x e.0 e.1) f.is m) in
     record {
       kept = subst Inv (sym (view_of-push es change)) (push_inv v change f.kept may);
       is = ap (λ x. next x change) f.is ∙ sym (state_of-push v change f.kept may) ∙
           ap state_of (sym (view_of-push es change));
     }
 
-pub run_follows : (trace : Trace) (es : List Effect) (s : State) → Follows es s → Runs s trace →
+pub run_follows : (most_runs : ℕ) (trace : Trace) (es : List Effect) (s : State) → Follows es s →
+    Runs most_runs s trace →
     Follows (es ++ effects trace) (after_run s trace)
-run_follows [] es s f r = subst (λ l. Follows l s) (sym (append-nil es)) f
-run_follows (e ∷ trace) es s f r =
+run_follows most_runs [] es s f r = subst (λ l. Follows l s) (sym (append-nil es)) f
+run_follows most_runs (e ∷ trace) es s f r =
     let change = effect e.0 e.1 in
     subst (λ l. Follows l (after_run (next s change) trace)) (append_assoc es (change ∷ []) (effects trace))
-    (run_follows trace (es ++ change ∷ []) (next s change) (step_follows es s e f r.0) r.1)
+    (run_follows most_runs trace (es ++ change ∷ []) (next s change) (step_follows most_runs es s e f r.0) r.1)
 
-pub from_start : (trace : Trace) → Runs start trace → Follows (effects trace) (after_run start trace)
-from_start trace r = run_follows trace [] start (record { kept = none_inv; is = refl }) r
+pub from_start : (most_runs : ℕ) (trace : Trace) → Runs most_runs start trace →
+    Follows (effects trace) (after_run start trace)
+from_start most_runs trace r = run_follows most_runs trace [] start (record { kept = none_inv; is = refl }) r

@@ -23,8 +23,8 @@ use Rattle.am_record.specs.Asks.{clashes, lock_of, locks_of}
 use Rattle.am_serial.specs.Trace.{Trace, Answered, Effect, Answers, Nothing, effect, effect_of_do, is_active, body}
 use Rattle.am_serial.specs.Trace.{held_by, ops_of, replies_of, IsSteady, IsAnsweredAlone, left_by_bodies, AtEachMoment}
 use Rattle.am_record.specs.Refusals.{or_else, lock_refusal, is_one_too_many}
-use Rattle.am_serial.specs.Machine.{State, start, state_at, due_early, blocker, is_open, view, locks_in, May, next}
-use Rattle.am_serial.specs.Machine.{Runs}
+use Rattle.am_serial.specs.Machine.{State, start, state_at, is_full, due_early, blocker, is_open, view, locks_in, May}
+use Rattle.am_serial.specs.Machine.{next, Runs}
 use Rattle.am_serial.specs.Sound.{IsLeastBlocker, BusyRightAt, IsAnswerOf, FormedDo, FormedAt, IsSoundFrom, IsSound}
 use Rattle.am_serial.proofs.Bodies.{answers_push}
 use Rattle.am_serial.proofs.Views.{View, view_of, view_of-push, push, among, active_in, committed_in, with_body}
@@ -129,8 +129,8 @@ replies_from None None false op m reply f from to is = ⊎_elim (λ b. absurd (l
     (λ d. ⊎_elim (λ n. inr n) (λ a. inl (is refl a)) d) f
 
 -- no refusal that is due early is Busy
-early_not_busy : (s : State) (t : ℕ) (op : Op) (h : ℕ) → due_early s t op ≡ Some (Busy h) → ⊥
-early_not_busy s t op h = go _ _ _ _ _
+early_not_busy : (full : Bool) (s : State) (t : ℕ) (op : Op) (h : ℕ) → due_early full s t op ≡ Some (Busy h) → ⊥
+early_not_busy full s t op h = go _ _ _ _ _
   where
     go : (a b c d e : Bool) → cond a (Some NoSuchTx)
         (cond b (Some TooManyOps) (cond c (Some NotRising) (cond d (Some BadLimit) (cond e (Some TooManyRuns) None)))) ≡
@@ -224,44 +224,53 @@ module _ (es : List Effect) (begun_rise : IsRisingFrom 0 (view_of es).begun) (t 
   abbrev s0 : State
   s0 = state_at es
 
-  abbrev Here : Reply → Type 0
-  Here reply = Replies (due_early s0 t op) (blocker s0.active t (lock_of op))
-      (is_one_too_many (locks_in s0.active t) (lock_of op)) op (view s0 t) reply
+  module _ (most_runs : ℕ) (reply : Reply) where
+    abbrev early : Option Refusal
+    early = due_early (is_full most_runs s0.runs reply) s0 t op
 
-  pub busy_right : (reply : Reply) → Here reply → BusyRightAt es (Do t op) reply
-  busy_right reply d h = (
-    (λ e. let b = busy_from _ _ _ op (view s0 t) reply h (early_not_busy s0 t op h) d e in
-        (b.0, blocker_is_least h b.1)),
-    (λ b. busy_to _ _ _ op (view s0 t) reply h d b.0 (least_is_blocker h b.1)),
-  )
+    abbrev Here : Type 0
+    Here = Replies early (blocker s0.active t (lock_of op)) (is_one_too_many (locks_in s0.active t) (lock_of op)) op
+        (view s0 t) reply
 
-  pub from_sound : (reply : Reply) → FormedAt es (Do t op) reply → BusyRightAt es (Do t op) reply →
-      (due_early s0 t op ≡ None → IsAnswerOf op reply → reply ≡ answer op (view s0 t)) → Here reply
-  from_sound reply f b is = replies_from _ _ _ op (view s0 t) reply f
-      (λ h e. let both = (b h).0 e in (both.0, least_is_blocker h both.1))
-      (λ h e k. (b h).1 (e, blocker_is_least h k)) is
+    pub busy_right : Here → BusyRightAt most_runs es (Do t op) reply
+    busy_right d h = (
+      (λ e. let b = busy_from _ _ _ op (view s0 t) reply h (early_not_busy (is_full most_runs s0.runs reply) s0 t op h)
+          d e in
+          (b.0, blocker_is_least h b.1)),
+      (λ b. busy_to _ _ _ op (view s0 t) reply h d b.0 (least_is_blocker h b.1)),
+    )
+
+    pub from_sound : FormedAt most_runs es (Do t op) reply → BusyRightAt most_runs es (Do t op) reply →
+        (early ≡ None → IsAnswerOf op reply → reply ≡ answer op (view s0 t)) → Here
+    from_sound f b is = replies_from _ _ _ op (view s0 t) reply f
+        (λ h e. let both = (b h).0 e in (both.0, least_is_blocker h both.1))
+        (λ h e k. (b h).1 (e, blocker_is_least h k)) is
 
 -- ---- from the machine to the trace
 
-busy_at : (es : List Effect) → Inv (view_of es) → (step : Step) (reply : Reply) → May (state_at es) step reply →
-    BusyRightAt es step reply
-busy_at es inv (Do t op) reply m = busy_right es inv.rising t op reply m
-busy_at es inv _ reply m = tt
+busy_at : (most_runs : ℕ) (es : List Effect) → Inv (view_of es) → (step : Step) (reply : Reply) →
+    May most_runs (state_at es) step reply → BusyRightAt most_runs es step reply
+busy_at most_runs es inv (Do t op) reply m = busy_right es inv.rising t op most_runs reply m
+busy_at most_runs es inv _ reply m = tt
 
-formed_at : (es : List Effect) (step : Step) (reply : Reply) → May (state_at es) step reply → FormedAt es step reply
-formed_at es (Do t op) reply m = formed_from _ _ _ op (view (state_at es) t) reply m
-formed_at es step reply m = m
+formed_at : (most_runs : ℕ) (es : List Effect) (step : Step) (reply : Reply) → May most_runs (state_at es) step reply →
+    FormedAt most_runs es step reply
+formed_at most_runs es (Do t op) reply m = formed_from _ _ _ op (view (state_at es) t) reply m
+formed_at most_runs es step reply m = m
 
-pub sound_from : (trace : Trace) (es : List Effect) (s : State) → Follows es s → Runs s trace → IsSoundFrom es trace
-sound_from [] es s f r = record { serial = f.kept.serial; steady = f.kept.steady; busy = tt; formed = tt }
-sound_from (e ∷ trace) es s f r =
-    let rest = sound_from trace (es ++ effect e.0 e.1 ∷ []) (next s (effect e.0 e.1)) (step_follows es s e f r.0) r.1 in
-    let may : May (state_at es) e.0 e.1 = subst (λ x. May x e.0 e.1) f.is r.0 in
+pub sound_from : (most_runs : ℕ) (trace : Trace) (es : List Effect) (s : State) → Follows es s →
+    Runs most_runs s trace →
+    IsSoundFrom most_runs es trace
+sound_from most_runs [] es s f r = record { serial = f.kept.serial; steady = f.kept.steady; busy = tt; formed = tt }
+sound_from most_runs (e ∷ trace) es s f r =
+    let rest = sound_from most_runs trace (es ++ effect e.0 e.1 ∷ []) (next s (effect e.0 e.1))
+    (step_follows most_runs es s e f r.0) r.1 in
+    let may : May most_runs (state_at es) e.0 e.1 = subst (λ x. May most_runs x e.0 e.1) f.is r.0 in
     record {
       serial = (f.kept.serial, rest.serial);
       steady = (f.kept.steady, rest.steady);
-      busy = (busy_at es f.kept e.0 e.1 may, rest.busy);
-      formed = (formed_at es e.0 e.1 may, rest.formed);
+      busy = (busy_at most_runs es f.kept e.0 e.1 may, rest.busy);
+      formed = (formed_at most_runs es e.0 e.1 may, rest.formed);
     }
 
 -- ---- from the trace to the machine
@@ -308,33 +317,38 @@ steady_answer v inv t op reply on steady =
     last_push Done (answer op (left_on (ops_of done) (fresh m))) (answers (ops_of done) m)
     ∙ ap (answer op) (sym (view-state_of v t on))
 
-pub active_early : (es : List Effect) (t : ℕ) (op : Op) → due_early (state_at es) t op ≡ None → is_active es t ≡ true
-active_early es t op e = sym (is_open-with_body (body es) (active_in (view_of es)) t) ∙
+pub active_early : (full : Bool) (es : List Effect) (t : ℕ) (op : Op) → due_early full (state_at es) t op ≡ None →
+    is_active es t ≡ true
+active_early full es t op e = sym (is_open-with_body (body es) (active_in (view_of es)) t) ∙
     not-false (is_open (state_at es).active t) (none_of_first (not (is_open (state_at es).active t)) NoSuchTx _ e).0
 
-may_at : (es : List Effect) → Inv (view_of es) → (step : Step) (reply : Reply) → FormedAt es step reply →
-    BusyRightAt es step reply → IsSteady (es ++ effect step reply ∷ []) → May (state_at es) step reply
-may_at es inv (Do t op) reply f b steady =
-    from_sound es inv.rising t op reply f b (λ early a.
+may_at : (most_runs : ℕ) (es : List Effect) → Inv (view_of es) → (step : Step) (reply : Reply) →
+    FormedAt most_runs es step reply → BusyRightAt most_runs es step reply → IsSteady (es ++ effect step reply ∷ []) →
+    May most_runs (state_at es) step reply
+may_at most_runs es inv (Do t op) reply f b steady =
+    from_sound es inv.rising t op most_runs reply f b (λ early a.
     let at_answers : SteadyAt (view_of (es ++ Answers t op reply ∷ [])) = subst (λ e. SteadyAt (view_of (es ++ e ∷ [])))
     (answer_effect t op reply a) steady in
-    steady_answer (view_of es) inv t op reply (active_early es t op early)
+    steady_answer (view_of es) inv t op reply (active_early (is_full most_runs (state_at es).runs reply) es t op early)
     (subst SteadyAt (view_of-push es (Answers t op reply)) at_answers))
-may_at es inv Begin reply f b steady = f
-may_at es inv step reply f b steady = f
+may_at most_runs es inv Begin reply f b steady = f
+may_at most_runs es inv step reply f b steady = f
 
 first_moment : (P : List Effect → Type 0) (trace : Trace) (es : List Effect) → AtEachMoment P es trace → P es
 first_moment P [] es h = h
 first_moment P (e ∷ trace) es h = h.0
 
-pub runs_from : (trace : Trace) (es : List Effect) (s : State) → Follows es s → IsSoundFrom es trace → Runs s trace
-runs_from [] es s f h = tt
-runs_from (e ∷ trace) es s f h =
-    let may = subst (λ x. May x e.0 e.1) (sym f.is)
-    (may_at es f.kept e.0 e.1 h.formed.0 h.busy.0
+pub runs_from : (most_runs : ℕ) (trace : Trace) (es : List Effect) (s : State) → Follows es s →
+    IsSoundFrom most_runs es trace →
+    Runs most_runs s trace
+runs_from most_runs [] es s f h = tt
+runs_from most_runs (e ∷ trace) es s f h =
+    let may = subst (λ x. May most_runs x e.0 e.1) (sym f.is)
+    (may_at most_runs es f.kept e.0 e.1 h.formed.0 h.busy.0
     (first_moment IsSteady trace (es ++ effect e.0 e.1 ∷ []) h.steady.1)) in (
       may,
-      runs_from trace (es ++ effect e.0 e.1 ∷ []) (next s (effect e.0 e.1)) (step_follows es s e f may)
+      runs_from most_runs trace (es ++ effect e.0 e.1 ∷ []) (next s (effect e.0 e.1))
+          (step_follows most_runs es s e f may)
           (record { serial = h.serial.1; steady = h.steady.1; busy = h.busy.1; formed = h.formed.1 }),
     )
 
@@ -342,5 +356,9 @@ pub at_start : Follows [] start
 at_start = record { kept = none_inv; is = refl }
 
 -- the sound traces are the machine's runs
-pub sound_is_run : (trace : Trace) → IsSound trace ↔ Runs start trace
-sound_is_run trace = (runs_from trace [] start at_start, sound_from trace [] start at_start)
+pub sound_is_run : (most_runs : ℕ) (trace : Trace) → IsSound most_runs trace ↔ Runs most_runs start trace
+sound_is_run most_runs trace = (
+  runs_from most_runs trace [] start at_start,
+  sound_from most_runs trace [] start
+      at_start,
+)

@@ -47,7 +47,7 @@ pub overlay_by : (f : ℕ → List Answered) (ts : List ℕ) (m : PlainMap) →
 overlay_by f ts m = ap (λ bodies. left_by_bodies bodies m) (bodies-with_body f ts)
 
 -- what is so where an operation is granted
-module _ (v : View) (inv : Inv v) (t : ℕ) (op : Op) (none_due : due (state_of v) t op ≡ None) where
+module _ (v : View) (inv : Inv v) (t : ℕ) (op : Op) (none_due : due false (state_of v) t op ≡ None) where
   abbrev seen : Draft
   seen = view (state_of v) t
 
@@ -107,7 +107,7 @@ module _ (v : View) (inv : Inv v) (t : ℕ) (op : Op) (none_due : due (state_of 
             ∙ ap (map_after op) (sym (overlay_by v.body ts m));
       }
 
-back_law : (v : View) (inv : Inv v) (t : ℕ) → due (state_of v) t Back ≡ None → BackRestores (state_of v) t
+back_law : (v : View) (inv : Inv v) (t : ℕ) → due false (state_of v) t Back ≡ None → BackRestores (state_of v) t
 back_law v inv t none_due q =
     let ts = active_in v in
     let m = committed_in v in
@@ -246,19 +246,20 @@ module _ (v : View) (inv : Inv v) where
     rebased = rebased_law;
   }
 
-pub view_laws : (trace : Trace) → Runs start trace → ViewLaws (after_run start trace)
-view_laws trace runs =
-    let follows = from_start trace runs in
+pub view_laws : (most_runs : ℕ) (trace : Trace) → Runs most_runs start trace → ViewLaws (after_run start trace)
+view_laws most_runs trace runs =
+    let follows = from_start most_runs trace runs in
     subst ViewLaws (sym follows.is) (views (view_of (effects trace)) follows.kept)
 
-pub overlay_laws : (trace : Trace) → Runs start trace → OverlayLaws (after_run start trace)
-overlay_laws trace runs =
-    let follows = from_start trace runs in
+pub overlay_laws : (most_runs : ℕ) (trace : Trace) → Runs most_runs start trace → OverlayLaws (after_run start trace)
+overlay_laws most_runs trace runs =
+    let follows = from_start most_runs trace runs in
     subst OverlayLaws (sym follows.is) (laws (view_of (effects trace)) follows.kept)
 
-pub is_state_of : (trace : Trace) → Runs start trace → IsMachineOf trace (after_run start trace)
-is_state_of trace runs =
-    let follows = from_start trace runs in
+pub is_state_of : (most_runs : ℕ) (trace : Trace) → Runs most_runs start trace →
+    IsMachineOf trace (after_run start trace)
+is_state_of most_runs trace runs =
+    let follows = from_start most_runs trace runs in
     let v = view_of (effects trace) in
     let of_view : IsMachineOf trace (state_of v) = record {
       committed_map = refl;

@@ -33,8 +33,8 @@ AbortRestores s t = (q : OrderedKey) → get (overlay_in (next s (Aborts t))) q 
     cond (owns_in s t q) (get s.committed q) (get (overlay_in s) q)
 
 pub record OverlayLaws (s : State) : Type 0 where
-  pub granted : (t : ℕ) (op : Op) → is_back op ≡ false → due s t op ≡ None → GrantedOnOverlay s t op
-  pub goes_back : (t : ℕ) → due s t Back ≡ None → BackRestores s t
+  pub granted : (t : ℕ) (op : Op) → is_back op ≡ false → due false s t op ≡ None → GrantedOnOverlay s t op
+  pub goes_back : (t : ℕ) → due false s t Back ≡ None → BackRestores s t
   pub commits : (t : ℕ) → is_open s.active t ≡ true → CommitKeepsOverlay s t
   pub aborts : (t : ℕ) → is_open s.active t ≡ true → AbortRestores s t
 

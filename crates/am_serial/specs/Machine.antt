@@ -1,12 +1,12 @@
 -- The locked machine: the committed map, and of each active transaction its answered operations.
-use Rattle.std.specs.Prelude.{◌≡◌, ◌⊎◌, ℕ, ◌+◌, ◌<◌, ◌≤◌, length, List, [], ◌∷◌, ◌++◌, Bool, true}
-use Rattle.std.specs.Prelude.{false, map, Option, MatchOption}
+use Rattle.std.specs.Prelude.{◌≡◌, ◌⊎◌, ℕ, ◌+◌, ◌<◌, ◌≤◌, nat_le, length, List, [], ◌∷◌, ◌++◌, Bool, true}
+use Rattle.std.specs.Prelude.{false, ◌&&◌, ◌||◌, map, Option, MatchOption}
 use Rattle.std.specs.FinMap.{empty}
-use Rattle.am_record.specs.Limits.{max_active, max_begun}
+use Rattle.am_record.specs.Limits.{max_active, max_begun, max_runs}
 use Rattle.am_record.specs.OrderedKey.{OrderedKey}
 use Rattle.am_record.specs.declared.lock.Lock.{Lock}
 use Rattle.am_record.specs.declared.step.Refusal.{Refusal}
-use Rattle.am_record.specs.declared.step.Refusal.TheVariants.{NoSuchTx, TooManyTx, BadLimit, NoMemory}
+use Rattle.am_record.specs.declared.step.Refusal.TheVariants.{NoSuchTx, TooManyTx, TooManyRuns, BadLimit, NoMemory}
 use Rattle.am_record.specs.declared.step.Op.{Op}
 use Rattle.am_record.specs.declared.step.Step.{Step}
 use Rattle.am_record.specs.declared.step.Step.TheVariants.{Begin, Do, Commit, Abort, Merge, Clean}
@@ -63,9 +63,19 @@ overlay_in s = left_by_bodies (map (λ (x : Transaction). x.1) s.active) s.commi
 
 -- ---- refusals
 
--- the refusal that is due before the lock is asked for
-abbrev pub due_early : State → ℕ → Op → Option Refusal
-due_early s t op = refusal_before_lock (is_open s.active t) (length (body_in s.active t)) s.runs op
+-- whether the reply says that no further run may be made
+abbrev pub says_full : Reply → Bool
+says_full (Refused TooManyRuns) = true
+says_full reply = false
+
+-- whether no further run may be made: where as many were as may be, or where the reply says so and 65,535 were, since
+-- no trace tells how many of these have entries left
+abbrev pub is_full : ℕ → ℕ → Reply → Bool
+is_full most_runs runs reply = nat_le most_runs runs || (nat_le max_runs runs && says_full reply)
+
+-- the refusal that is due before the lock is asked for, by whether no further run may be made
+abbrev pub due_early : Bool → State → ℕ → Op → Option Refusal
+due_early full s t op = refusal_before_lock (is_open s.active t) (length (body_in s.active t)) full op
 
 -- the least of the other transactions that hold a conflicting lock
 abbrev pub blocker : List Transaction → ℕ → Option Lock → Option ℕ
@@ -75,36 +85,38 @@ blocker txs = blocker_among (λ (x : Transaction). x.0) (λ (x : Transaction). l
 abbrev pub due_lock : State → ℕ → Op → Option Refusal
 due_lock s t op = lock_refusal (blocker s.active t (lock_of op)) (is_one_too_many (locks_in s.active t) (lock_of op))
 
-abbrev pub due : State → ℕ → Op → Option Refusal
-due s t op = or_else (due_early s t op) (due_lock s t op)
+abbrev pub due : Bool → State → ℕ → Op → Option Refusal
+due full s t op = or_else (due_early full s t op) (due_lock s t op)
 
 -- ---- steps
 
 -- the reply to an operation: the refusal that is due, and else the answer on the transaction's own view, or want of
 -- memory
-abbrev pub MayDo : State → ℕ → Op → Reply → Type 0
-MayDo s t op reply = MatchOption (due s t op) ((reply ≡ answer op (view s t)) ⊎ (reply ≡ Refused NoMemory))
-    (λ why. reply ≡ Refused why)
+abbrev pub MayDo : ℕ → State → ℕ → Op → Reply → Type 0
+MayDo most_runs s t op reply = MatchOption (due (is_full most_runs s.runs reply) s t op)
+    ((reply ≡ answer op (view s t)) ⊎ (reply ≡ Refused NoMemory)) (λ why. reply ≡ Refused why)
 
--- the machine may give this reply to the step. Which entries a merge or a clean takes isn't the machine's
-abbrev pub May : State → Step → Reply → Type 0
-May s Begin (Begun t) = (t ≡ s.begun + 1) × (length s.active < max_active) × (s.begun < max_begun)
-May s Begin (Refused TooManyTx) = (max_active ≤ length s.active) ⊎ (max_begun ≤ s.begun)
-May s (Do t op) reply = MayDo s t op reply
-May s (Commit t) (Committed c) = (is_open s.active t ≡ true) × (c ≡ s.commits + 1)
-May s (Commit t) (Refused NoSuchTx) = is_open s.active t ≡ false
-May s (Abort t) Aborted = is_open s.active t ≡ true
-May s (Abort t) (Refused NoSuchTx) = is_open s.active t ≡ false
-May s (Merge limit) (Moved n run) = (is_limit limit ≡ true) × (1 ≤ n) × (n ≤ limit) × (1 ≤ run) × (run ≤ s.runs)
-May s (Merge limit) MergeDone = is_limit limit ≡ true
-May s (Merge limit) (Ended k h) = is_limit limit ≡ true
-May s (Merge limit) Idle = is_limit limit ≡ true
-May s (Merge limit) (Refused BadLimit) = is_limit limit ≡ false
-May s (Merge limit) (Refused NoMemory) = is_limit limit ≡ true
-May s (Clean range limit) (Cleaned n) = (is_limit limit ≡ true) × (n ≤ limit)
-May s (Clean range limit) (Refused BadLimit) = is_limit limit ≡ false
-May s (Clean range limit) (Refused NoMemory) = is_limit limit ≡ true
-May s _ _ = ⊥
+-- the machine that makes so many runs at most may give this reply to the step. Which entries a merge or a clean takes
+-- isn't the machine's
+abbrev pub May : ℕ → State → Step → Reply → Type 0
+May most_runs s Begin (Begun t) = (t ≡ s.begun + 1) × (length s.active < max_active) × (s.begun < max_begun)
+May most_runs s Begin (Refused TooManyTx) = (max_active ≤ length s.active) ⊎ (max_begun ≤ s.begun)
+May most_runs s (Do t op) reply = MayDo most_runs s t op reply
+May most_runs s (Commit t) (Committed c) = (is_open s.active t ≡ true) × (c ≡ s.commits + 1)
+May most_runs s (Commit t) (Refused NoSuchTx) = is_open s.active t ≡ false
+May most_runs s (Abort t) Aborted = is_open s.active t ≡ true
+May most_runs s (Abort t) (Refused NoSuchTx) = is_open s.active t ≡ false
+May most_runs s (Merge limit) (Moved n run) =
+    (is_limit limit ≡ true) × (1 ≤ n) × (n ≤ limit) × (1 ≤ run) × (run ≤ s.runs)
+May most_runs s (Merge limit) MergeDone = is_limit limit ≡ true
+May most_runs s (Merge limit) (Ended k h) = is_limit limit ≡ true
+May most_runs s (Merge limit) Idle = is_limit limit ≡ true
+May most_runs s (Merge limit) (Refused BadLimit) = is_limit limit ≡ false
+May most_runs s (Merge limit) (Refused NoMemory) = is_limit limit ≡ true
+May most_runs s (Clean range limit) (Cleaned n) = (is_limit limit ≡ true) × (n ≤ limit)
+May most_runs s (Clean range limit) (Refused BadLimit) = is_limit limit ≡ false
+May most_runs s (Clean range limit) (Refused NoMemory) = is_limit limit ≡ true
+May most_runs s _ _ = ⊥
 
 -- with the operation at the end of its own
 abbrev pub extended : Answered → Transaction → Transaction
@@ -129,9 +141,9 @@ next s (Aborts t) = record s { active = without_transaction t s.active }
 next s Nothing = s
 
 -- the machine may give these replies to these steps
-abbrev pub Runs : State → Trace → Type 0
-Runs s [] = Unit {0}
-Runs s (e ∷ trace) = May s e.0 e.1 × Runs (next s (effect e.0 e.1)) trace
+abbrev pub Runs : ℕ → State → Trace → Type 0
+Runs most_runs s [] = Unit {0}
+Runs most_runs s (e ∷ trace) = May most_runs s e.0 e.1 × Runs most_runs (next s (effect e.0 e.1)) trace
 
 abbrev pub after_run : State → Trace → State
 after_run s [] = s

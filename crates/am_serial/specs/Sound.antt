@@ -13,7 +13,7 @@ use Rattle.am_record.specs.Plain.{is_key_of}
 use Rattle.am_record.specs.Asks.{clashes, lock_of}
 use Rattle.am_serial.specs.Trace.{Trace, Effect, effect, is_active, held_by, IsSerial, IsSteady, AtEachMoment}
 use Rattle.am_record.specs.Refusals.{is_one_too_many}
-use Rattle.am_serial.specs.Machine.{state_at, due_early, locks_in, May}
+use Rattle.am_serial.specs.Machine.{state_at, is_full, due_early, locks_in, May}
 
 -- another active transaction holds a lock that conflicts with the operation's
 pub record Blocks (es : List Effect) (t : ℕ) (op : Op) (u : ℕ) : Type 0 where
@@ -26,10 +26,10 @@ pub record IsLeastBlocker (es : List Effect) (t : ℕ) (op : Op) (h : ℕ) : Typ
   pub least : (u : ℕ) → Blocks es t op u → h ≤ u
 
 -- Busy is answered exactly where no earlier refusal is due and another holds a conflicting lock, and it names the least
-abbrev pub BusyRightAt : List Effect → Step → Reply → Type 0
-BusyRightAt es (Do t op) reply = (h : ℕ) → (reply ≡ Refused (Busy h)) ↔
-    ((due_early (state_at es) t op ≡ None) × IsLeastBlocker es t op h)
-BusyRightAt es _ reply = Unit {0}
+abbrev pub BusyRightAt : ℕ → List Effect → Step → Reply → Type 0
+BusyRightAt most_runs es (Do t op) reply = (h : ℕ) → (reply ≡ Refused (Busy h)) ↔
+    ((due_early (is_full most_runs (state_at es).runs reply) (state_at es) t op ≡ None) × IsLeastBlocker es t op h)
+BusyRightAt most_runs es _ reply = Unit {0}
 
 -- the reply is one of the operation's answers
 abbrev pub IsAnswerOf : Op → Reply → Type 0
@@ -60,21 +60,23 @@ FormedDo early full op reply =
     (IsBusy reply ⊎ MatchBool full (reply ≡ Refused TooManyLocks) ((reply ≡ Refused NoMemory) ⊎ IsAnswerOf op reply))
     (λ why. reply ≡ Refused why)
 
-abbrev pub FormedAt : List Effect → Step → Reply → Type 0
-FormedAt es (Do t op) reply = FormedDo (due_early (state_at es) t op)
+abbrev pub FormedAt : ℕ → List Effect → Step → Reply → Type 0
+FormedAt most_runs es (Do t op) reply =
+    FormedDo (due_early (is_full most_runs (state_at es).runs reply) (state_at es) t op)
     (is_one_too_many (locks_in (state_at es).active t) (lock_of op)) op reply
-FormedAt es step reply = May (state_at es) step reply
+FormedAt most_runs es step reply = May most_runs (state_at es) step reply
 
 -- a fact of each event and the moment before it
 abbrev pub EachEvent : (List Effect → Step → Reply → Type 0) → List Effect → Trace → Type 0
 EachEvent P es [] = Unit {0}
 EachEvent P es (e ∷ trace) = P es e.0 e.1 × EachEvent P (es ++ effect e.0 e.1 ∷ []) trace
 
-pub record IsSoundFrom (es : List Effect) (trace : Trace) : Type 0 where
+pub record IsSoundFrom (most_runs : ℕ) (es : List Effect) (trace : Trace) : Type 0 where
   pub serial : AtEachMoment IsSerial es trace
   pub steady : AtEachMoment IsSteady es trace
-  pub busy : EachEvent BusyRightAt es trace
-  pub formed : EachEvent FormedAt es trace
+  pub busy : EachEvent (BusyRightAt most_runs) es trace
+  pub formed : EachEvent (FormedAt most_runs) es trace
 
-abbrev pub IsSound : Trace → Type 0
-IsSound trace = IsSoundFrom [] trace
+-- the same of a whole trace, of a store that makes so many runs at most
+abbrev pub IsSound : ℕ → Trace → Type 0
+IsSound most_runs trace = IsSoundFrom most_runs [] trace

@@ -35,7 +35,7 @@ pub record IsGranted (s : State) (t : ℕ) (op : Op) : Type 0 where
   pub free : (u : ℕ) → is_open s.active u ≡ true → u ≢ t → clashes (lock_of op) (locks_in s.active u) ≡ false
 
 pub record StepLaws (s : State) : Type 0 where
-  pub granted : (t : ℕ) (op : Op) → due s t op ≡ None → IsGranted s t op
+  pub granted : (t : ℕ) (op : Op) → due false s t op ≡ None → IsGranted s t op
   pub begins : (t : ℕ) → is_open s.active t ≡ false → HasBegun (next s (Begins t)) t
   pub begins_others : (t u : ℕ) → u ≢ t → IsUntouched s (next s (Begins t)) u
   pub answers : (t : ℕ) (op : Op) (reply : Reply) → is_open s.active t ≡ true →

@@ -5,7 +5,7 @@
 //! traces of this machine.
 #![tactic(auto)]
 
-ghost use Rattle.std.specs.Prelude.{◌↔◌, []};
+ghost use Rattle.std.specs.Prelude.{◌↔◌, ℕ, []};
 ghost use Rattle.am_serial.specs.Trace.{Trace, IsSerial, IsSteady, AtEachMoment};
 ghost use Rattle.am_serial.specs.Machine.{State, Runs, start, after_run};
 ghost use Rattle.am_serial.specs.Steps.{StepLaws};
@@ -18,33 +18,35 @@ ghost use Rattle.am_serial.specs.Rows.{nested_marks, back_keeps_locks, back_forg
 /// At each moment of every run of the machine the trace is serial in the order of commit, and what is
 /// active has read only the committed map and its own writes.
 pub fn runs_are_serial()
-    ensures serial { (trace : Trace) → Runs start trace → AtEachMoment IsSerial [] trace }
-    ensures steady { (trace : Trace) → Runs start trace → AtEachMoment IsSteady [] trace }
+    ensures serial { (most_runs : ℕ) (trace : Trace) → Runs most_runs start trace → AtEachMoment IsSerial [] trace }
+    ensures steady { (most_runs : ℕ) (trace : Trace) → Runs most_runs start trace → AtEachMoment IsSteady [] trace }
 {}
 
 /// The machine's runs are the traces that are serial, steady, right in their Busy answers and formed
 /// at each moment.
 pub fn sound_traces_are_runs()
-    ensures { (trace : Trace) → IsSound trace ↔ Runs start trace }
+    ensures { (most_runs : ℕ) (trace : Trace) → IsSound most_runs trace ↔ Runs most_runs start trace }
 {}
 
 /// Whoever judges a sound trace without the store finds nothing wrong in it.
 pub fn sound_traces_are_legal()
-    ensures { (trace : Trace) → IsSound trace → IsLegal trace }
+    ensures { (most_runs : ℕ) (trace : Trace) → IsSound most_runs trace → IsLegal most_runs trace }
 {}
 
 /// What holds of every formed trace, also of one whose answers are wrong: the machine's state is what the
 /// trace says, it names the least blocker, and only a commit says more of the order.
 pub fn formed_traces_follow()
-    ensures { (trace : Trace) → IsFormed trace → FormedLaws trace }
+    ensures { (most_runs : ℕ) (trace : Trace) → IsFormed most_runs trace → FormedLaws most_runs trace }
 {}
 
 /// The machine's state is what its trace says, and its steps do to the overlay what they do to the
 /// transactions' own views.
 pub fn overlay_follows()
-    ensures state { (trace : Trace) → Runs start trace → IsMachineOf trace (after_run start trace) }
-    ensures overlay { (trace : Trace) → Runs start trace → OverlayLaws (after_run start trace) }
-    ensures views { (trace : Trace) → Runs start trace → ViewLaws (after_run start trace) }
+    ensures state { (most_runs : ℕ) (trace : Trace) → Runs most_runs start trace →
+        IsMachineOf trace (after_run start trace) }
+    ensures overlay { (most_runs : ℕ) (trace : Trace) → Runs most_runs start trace →
+        OverlayLaws (after_run start trace) }
+    ensures views { (most_runs : ℕ) (trace : Trace) → Runs most_runs start trace → ViewLaws (after_run start trace) }
 {}
 
 /// What one step does to what each transaction sees and holds.
@@ -54,7 +56,7 @@ pub fn steps_follow()
 
 /// The machine makes the worked traces with savepoints, and not the one in which a Back is forgotten.
 pub fn worked_savepoints()
-    ensures nested { Runs start nested_marks }
-    ensures locks_stay { Runs start back_keeps_locks }
-    ensures forgotten { ¬ (Runs start back_forgotten) }
+    ensures nested { Runs 65535 start nested_marks }
+    ensures locks_stay { Runs 65535 start back_keeps_locks }
+    ensures forgotten { ¬ (Runs 65535 start back_forgotten) }
 {}

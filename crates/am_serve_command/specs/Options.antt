@@ -33,6 +33,13 @@ grace = record { least = 0; most = 3600; default = Some 0 }
 abbrev pub idle : Setting
 idle = record { least = 1; most = 43200; default = Some 1 }
 
+abbrev pub lapse : Setting
+lapse = record { least = 0; most = 0; default = Some 0 }
+
+-- of a server that stays
+abbrev pub staying_lapse : Setting
+staying_lapse = record { least = 0; most = 43200; default = Some 60 }
+
 abbrev pub workers : Setting
 workers = record { least = 0; most = 16; default = Some 1 }
 
@@ -63,14 +70,15 @@ common_app =
     let with_trace = with_rule with_workers (option_rule (codes "trace")) in
     with_rule with_trace (flag_rule (codes "stop"))
 
--- and `[--hold MS] [--stay] [--grace S] [--idle S] [--socket PATH] [--log]`
+-- and `[--hold MS] [--stay] [--grace S] [--idle S] [--idle-transaction S] [--socket PATH] [--log]`
 abbrev pub listen_app : App
 listen_app =
     let with_hold = with_rule common_app (number_rule (option_rule (codes "hold")) hold) in
     let with_stay = with_rule with_hold (flag_rule (codes "stay")) in
     let with_grace = with_rule with_stay (number_rule (option_rule (codes "grace")) grace) in
     let with_idle = with_rule with_grace (number_rule (option_rule (codes "idle")) idle) in
-    let with_socket = with_rule with_idle (option_rule (codes "socket")) in
+    let with_lapse = with_rule with_idle (number_rule (option_rule (codes "idle-transaction")) staying_lapse) in
+    let with_socket = with_rule with_lapse (option_rule (codes "socket")) in
     with_rule with_socket (flag_rule (codes "log"))
 
 -- `amserve`, which has a version and wants a subcommand
@@ -115,6 +123,8 @@ pub record NamesListening (rows : List Row) (listening : Listening) : Type 0 whe
   pub stay_told : IsTrue listening.stays ↔ (first_of (codes "stay") rows ≡ Some (codes "true"))
   pub grace_set : SetsIfGiven grace (first_of (codes "grace") rows) listening.grace
   pub idle_set : SetsIfGiven idle (first_of (codes "idle") rows) listening.idle
+  pub lapse_set : Sets (cond listening.stays staying_lapse lapse) (first_of (codes "idle-transaction") rows)
+      listening.lapse
   pub socket_named : option_map (λ file. file.now) listening.socket ≡ first_of (codes "socket") rows
   pub socket_has_name : first_of (codes "socket") rows ≢ Some []
   pub log_told : IsTrue listening.is_logged ↔ (first_of (codes "log") rows ≡ Some (codes "true"))

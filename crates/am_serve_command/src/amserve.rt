@@ -65,6 +65,20 @@ const IDLE: Setting = Setting {
     default: Some(1),
 };
 
+/// After how many seconds without a line a transaction lapses; 0 for none. Of a bounded server none does.
+const LAPSE: Setting = Setting {
+    least: 0,
+    most: 0,
+    default: Some(0),
+};
+
+/// The same of a server that stays.
+const STAYING_LAPSE: Setting = Setting {
+    least: 0,
+    most: 43_200,
+    default: Some(60),
+};
+
 /// For how many milliseconds at most a session may hold.
 const HOLD: Setting = Setting {
     least: 0,
@@ -92,7 +106,7 @@ pub fn options<'a, S: AsStr>(alloc: Global, words: &'a [S]) -> Result<Options<'a
         Ok(matches) => match selected(&matches) {
             Some(options) => Ok(options),
             None => Err(OptionsFault::Unserved(
-                "expected alone or listen, files that have names, and --stay beside --grace, --idle, --socket and --log",
+                "expected alone or listen, files that have names, and --stay beside --grace, --idle, --idle-transaction, --socket and --log",
             )),
         },
         Err(error) => Err(fault_of(alloc, &error)),
@@ -127,7 +141,8 @@ fn alone<'a>(alloc: Global) -> Result<Command<'a>, AllocError>
 }
 
 /// `listen`, with what each server takes, `[--hold MS]` too, and what goes with one that stays:
-/// `[--stay] [--grace S] [--idle S] [--socket PATH] [--log]`. It has a frame of its own, so that none is large.
+/// `[--stay] [--grace S] [--idle S] [--idle-transaction S] [--socket PATH] [--log]`. It has a frame of its own, so that
+/// none is large.
 #[inline(never)]
 fn listen<'a>(alloc: Global) -> Result<Command<'a>, AllocError>
     ensures { IfOk result (λ command. IsCommand listen_app command) }
@@ -158,6 +173,13 @@ fn listen<'a>(alloc: Global) -> Result<Command<'a>, AllocError>
             "S",
             "With --stay: end a session from which nothing came for S seconds, 1 to 43200",
             IDLE,
+        ))?
+        .arg(number(
+            alloc,
+            "idle-transaction",
+            "S",
+            "With --stay: abort a transaction where no line came for S seconds, 0 to 43200; 0 for none [default: 60]",
+            STAYING_LAPSE,
         ))?
         .arg(option(
             alloc,
@@ -271,6 +293,7 @@ fn listening_in<'a>(given: &ArgMatches<'a>) -> Option<Listening<'a>>
 {
     let stays = is_given(given, "stay");
     let sessions = if stays { STAYING_SESSIONS } else { SESSIONS };
+    let lapse = if stays { STAYING_LAPSE } else { LAPSE };
     let listening = Listening {
         port: number_in(given, "port", PORT)?,
         sessions: u64::from(number_in(given, "sessions", sessions)?),
@@ -281,6 +304,7 @@ fn listening_in<'a>(given: &ArgMatches<'a>) -> Option<Listening<'a>>
         stays,
         grace: seconds_in(text_in(given, "grace"), GRACE)?,
         idle: seconds_in(text_in(given, "idle"), IDLE)?,
+        lapse: u64::from(number_in(given, "idle-transaction", lapse)?),
         socket: file_in(text_in(given, "socket"))?,
         is_logged: is_given(given, "log"),
     };

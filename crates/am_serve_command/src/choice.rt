@@ -31,6 +31,9 @@ pub struct Listening<'a> {
     pub grace: Option<u64>,
     /// After how many seconds in which nothing came a session of a server that stays ends, where it does; 1 to 43,200.
     pub idle: Option<u64>,
+    /// After how many seconds without a line of its session a transaction of a server that stays is aborted: 0 to
+    /// 43,200, and 0 for none.
+    pub lapse: u64,
     /// The socket of the file system at which a server that stays listens too, where one is named; never the empty
     /// name.
     pub socket: Option<&'a str>,

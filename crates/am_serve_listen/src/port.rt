@@ -169,6 +169,7 @@ fn serve_with<
         grace: listening.grace.map(Duration::from_secs),
         limits: Limits {
             idle: listening.idle.map(Duration::from_secs),
+            lapse: seconds(listening.lapse),
             hold: listening.hold,
         },
     };
@@ -178,6 +179,15 @@ fn serve_with<
         Mode::Bounded
     };
     serve_kept(rt, port, mode, sessions, workers, keeping)
+}
+
+// So many seconds; none where there are 0.
+fn seconds(count: u64) -> Option<Duration> {
+    if count == 0 {
+        None
+    } else {
+        Some(Duration::from_secs(count))
+    }
 }
 
 // Serves, whoever takes the trace and looks at the server.

@@ -59,8 +59,8 @@ pub record IsOfSessions (most : ℕ) (q : SessionSeatState) : Type 0 where
 -- The trace is sound, with every merge and clean right, and legal; it leads to a store with so many commits; and it is
 -- that of the seats: each of their receipts stands in it, and each of its pairs has one.
 pub record IsTraceOf (seats : List SeatState) (trace : Trace) (commits : ℕ) : Type 0 where
-  pub sound : IsSoundStore trace
-  pub legal : IsLegal trace
+  pub sound : IsSoundStore 65535 trace
+  pub legal : IsLegal 65535 trace
   pub store : StoreState
   pub stands : IsSoundAt trace store
   pub committed : commits ≡ store.commits

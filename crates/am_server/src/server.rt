@@ -189,6 +189,7 @@ pub(crate) fn run<
     requires few { length counter_seats.items ≤ L.seats }
     requires places { house.now.connections ≡ length counter_seats.items }
     requires idle { house.now.idle ≡ keeping.limits.idle }
+    requires lapse { house.now.lapse ≡ keeping.limits.lapse }
     requires hold { house.now.turnstile ≡ keeping.limits.hold }
     ensures { IfOk result (IsServerTrace T.took keeping.pieces house.now.mode (length counter_seats.items)
         (L.seats - length counter_seats.items)) }

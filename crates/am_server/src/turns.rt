@@ -7,10 +7,9 @@ ghost use Rattle.am_server.specs.ServerTraces.{WasServed, HasServedInTurn};
 ghost use Rattle.am_doors.specs.Modes.{most_sessions};
 
 use crate::sessions::{refuse, serve_connection};
-use am_doors::{House, OwnLines, turn_away};
+use am_doors::{ClientBytes, House, OwnLines, turn_away};
 use am_latch::LatchName;
 use am_session_seat::SessionSeat;
-use am_stream::Reading;
 use std::alloc::Global;
 use std::net::TcpStream;
 use std::rt::Clock;
@@ -51,7 +50,10 @@ fn serve_at_place<'a, R: Wait + Clock, L: LatchName>(
         refuse(&shared);
         return;
     };
-    let Ok(mut source) = OwnLines::new(alloc, Reading::new(&*shared)) else {
+    let Ok(mut source) = OwnLines::new(
+        alloc,
+        ClientBytes::new(rt, &*shared, house.lapse, house.idle),
+    ) else {
         refuse(&shared);
         return;
     };

@@ -26,6 +26,7 @@ module _ (took took' gave gave' parted parted' : List ℕ → Type 0) (done done
     events = t.events;
     takes = takes _ t.takes;
     whole = whole_there t.read t.waiting t.whole;
+    last = t.last;
     quit = t.quit;
     lines = t.lines;
     gives = gives _ t.gives;
@@ -38,7 +39,6 @@ module _ (took took' gave gave' parted parted' : List ℕ → Type 0) (done done
     events = t.events;
     takes = takes _ t.takes;
     done = ends t.done;
-    no_quit = t.no_quit;
     lines = t.lines;
     gives = gives _ t.gives;
     does = does t.exchanges None t.events t.does;
@@ -51,7 +51,6 @@ module _ (took took' gave gave' parted parted' : List ℕ → Type 0) (done done
     takes = takes _ t.takes;
     ended = t.ended;
     begins = t.begins;
-    no_quit = t.no_quit;
     lines = t.lines;
     gives = gives _ t.gives;
     does = does t.exchanges None t.events t.does;
@@ -65,7 +64,6 @@ module _ (took took' gave gave' parted parted' : List ℕ → Type 0) (done done
     count = t.count;
     takes = takes _ t.takes;
     whole = whole_there t.read t.waiting t.whole;
-    no_quit = t.no_quit;
     lines = t.lines;
     gives = gives _ t.gives;
     does = does t.exchanges (Some t.last) t.events t.does;
@@ -79,6 +77,7 @@ module _ (took took' gave gave' parted parted' : List ℕ → Type 0) (done done
       events = t.1.events;
       takes = takes _ t.1.takes;
       whole = whole_there t.1.read t.1.waiting t.1.whole;
+      last = t.1.last;
       quit = t.1.quit;
       lines = t.1.lines;
       gives = gives _ t.1.gives;

@@ -1,9 +1,11 @@
 -- What was heard of a line, and how it was answered.
 use Rattle.std.proofs.Common.{◌≡◌, ℕ, ◌==◌, Bool, [], ◌∷◌, Option, Some, None, true, false, refl, sym, ap, ◌∙◌, subst}
-use Rattle.std.proofs.Common.{⊎_elim}
+use Rattle.std.proofs.Common.{⊎_elim, inl, inr, ◌++◌, append-nil, cond, not}
+use Rattle.std.proofs.lemmas.Bool.{true≢false}
 use Rattle.std.specs.Prelude.{MatchBool}
-use Rattle.am_record.specs.declared.step.Step.TheVariants.{Merge}
+use Rattle.am_record.specs.declared.step.Step.TheVariants.{Abort, Merge}
 use Rattle.am_record.specs.declared.step.Reply.{Reply}
+use Rattle.am_record.specs.declared.step.Reply.TheVariants.{Aborted}
 use Rattle.am_serial.specs.Trace.{Trace}
 use Rattle.am_wire.specs.Grammar.{brings_records}
 use Rattle.am_wire.specs.LineReadings.{reading}
@@ -18,6 +20,12 @@ use Rattle.am_dialogue.specs.declared.lines.ParsedLine.TheVariants.{Asked}
 use Rattle.am_dialogue.specs.declared.response.Response.{Response}
 use Rattle.am_dialogue.specs.Backends.{BackendMeaning}
 use Rattle.am_dialogue.specs.Conversation.{SessionPoint, Stays, TakesStep, AnswersParsed, AnswersLine, MergesAfter}
+use Rattle.am_dialogue.specs.Responses.{is_lapsed}
+use Rattle.am_session.specs.Heard.{MayHear, is_quit_heard}
+use Rattle.am_session.specs.Waits.{Waits}
+use Rattle.am_session.specs.OneAnswer.{RespondsTo}
+use Rattle.am_session.specs.ServedSessions.{goes_on}
+use Rattle.am_session.specs.declared.heard.Heard.{Heard}
 
 -- what brings records is no QUIT
 no_quit : (asked : Request) → brings_records asked ≡ true → is_quit (Asked asked) ≡ false
@@ -43,11 +51,61 @@ due_at a s s' h what e f m =
     (record { active = a; staged = s'.staged })) (sym e)
     (subst (λ (x : Option ℕ). IsActionFor s h what (record { active = x; staged = s'.staged })) (f ∙ sym e) m)
 
--- the line was heard so
-pub line_answered : {B : Type 0} (means : BackendMeaning B) (old new : SessionPoint B) (line : Line) (h : ParsedLine)
-    (response : Response) (events : Trace) → MayParse line h → AnswersParsed means old h response events new →
-    AnswersLine means old (line, response) events new
-line_answered means old new line h response events may a = (h, may, a)
+-- a line was waited for, and what was heard then was answered
+pub line_answered : {B : Type 0} (means : BackendMeaning B) (old waited new : SessionPoint B) (line : Line)
+    (is_late : Bool) (h : Heard) (response : Response) (idle own : Trace) → Waits means is_late old idle waited →
+    MayHear is_late line h → RespondsTo means waited h response own new →
+    AnswersLine means old (line, response) (idle ++ own) new
+line_answered {B} means old waited new line true h response idle own (gone, (lapses, (tx, active, (steps, are, left))))
+    may
+    a =
+    let b = subst (λ (x : Heard). RespondsTo means waited x response own new) may a in
+    let none : own ≡ [] = b.1.0 in
+    let same : new ≡ waited = b.1.1 in inr (
+      b.0,
+      (
+        lapses,
+        (
+          tx,
+          active,
+          (
+            subst (λ (x : SessionPoint B). means.steps old.0 (Abort tx) Aborted x.0) (sym same) steps,
+            ap (λ (more : Trace). idle ++ more) none ∙ append-nil idle ∙ are,
+            ap (λ (x : SessionPoint B). x.1) same ∙ left,
+          ),
+        ),
+      ),
+    )
+line_answered {B} means old waited new line false h response idle own (none, same) may a =
+    let at_parsed = subst (λ (x : Heard). RespondsTo means waited x response own new) may.2 a in
+    let at_old = subst (λ (x : SessionPoint B). AnswersParsed means x may.0 response own new) same at_parsed in
+    inl (
+      may.0,
+      may.1,
+      subst (λ (es : Trace). AnswersParsed means old may.0 response es new)
+          (sym (ap (λ (es : Trace). es ++ own) none)) at_old,
+    )
+
+-- at a QUIT that was heard a line was QUIT
+pub quit_heard : (is_late : Bool) (line : Line) (h : Heard) → MayHear is_late line h → is_quit_heard h ≡ true →
+    is_quit (parsed line) ≡ true
+quit_heard true line h may q = absurd (true≢false (sym q ∙ ap is_quit_heard may))
+quit_heard false line h may q = sym (heard_quit line may.0 may.1) ∙ sym (ap is_quit_heard may.2) ∙ q
+
+-- behind any other the session goes on
+pub goes_on_heard : {B : Type 0} (means : BackendMeaning B) (waited new : SessionPoint B) (line : Line) (is_late : Bool)
+    (h : Heard) (response : Response) (own : Trace) → MayHear is_late line h →
+    RespondsTo means waited h response own new → is_quit_heard h ≡ false → goes_on (line, response) ≡ true
+goes_on_heard means waited new line true h response own may a q =
+    let b = subst (λ (x : Heard). RespondsTo means waited x response own new) may a in
+    ap (λ (r : Response). goes_on (line, r)) b.0
+goes_on_heard means waited new line false h response own may a q =
+    let no : is_quit (parsed line) ≡ false = sym (heard_quit line may.0 may.1) ∙ sym (ap is_quit_heard may.2) ∙ q in
+    ap (λ (b : Bool). cond (is_lapsed response) true (not b)) no ∙ either_way (is_lapsed response)
+  where
+    either_way : (b : Bool) → cond b true true ≡ true
+    either_way true = refl
+    either_way false = refl
 
 -- the merge behind it
 pub merged_once : {B : Type 0} (means : BackendMeaning B) (auto : ℕ) (old new : SessionPoint B) (reply : Reply) →

@@ -1,6 +1,6 @@
 -- A session so far, and at each line that it waits for.
 use Rattle.std.proofs.Common.{◌≡◌, ◌⊎◌, ℕ, List, [], ◌∷◌, ◌++◌, append_assoc, append-nil, ap, sym, ◌∙◌, refl, take}
-use Rattle.std.proofs.Common.{true, false, Bool, Option, Some, None, cond, inl, inr, subst}
+use Rattle.std.proofs.Common.{true, false, Bool, Option, Some, None, inl, inr, subst}
 use Rattle.std.proofs.lemmas.List.{map-append}
 use Rattle.am_serial.specs.Trace.{Trace}
 use Rattle.am_stream.specs.Lines.{lines_of, TookLine, TookPart}
@@ -8,13 +8,14 @@ use Rattle.am_stream.specs.SourceReads.{Took, TookAhead, IsAtEnd}
 use Rattle.am_sink.specs.SinkWrites.{Gave}
 use Rattle.am_sink.proofs.Writes.{gave_then}
 use Rattle.am_stream.proofs.Streams.{took_then}
-use Rattle.am_dialogue.specs.ParsedLine.{Line, parsed, is_quit, before_quit, quits}
+use Rattle.am_dialogue.specs.ParsedLine.{Line, parsed, is_quit}
 use Rattle.am_dialogue.specs.Responses.{response_text}
 use Rattle.am_dialogue.specs.Exchanges.{Exchange, asked, texts}
 use Rattle.am_dialogue.specs.Backends.{BackendMeaning}
 use Rattle.am_dialogue.specs.Conversation.{SessionPoint, AnswersLine, MergesAfter, AnswersTorn, Converses}
-use Rattle.am_session.specs.ServedSessions.{IsEnded, AsksFor}
-use Rattle.am_session.specs.Stops.{Talked}
+use Rattle.am_session.specs.ServedSessions.{IsEnded, AsksFor, GoOn, goes_on}
+use Rattle.am_session.specs.Waits.{Waits, MayWait}
+use Rattle.am_session.specs.Stops.{Rests, Talked}
 use Rattle.am_session.specs.declared.session.Stop.TheVariants.{Quit, EndOfInput, ReadFailed, WriteFailed}
 use Rattle.am_session.proofs.Streams.{took_total, appends_none}
 
@@ -30,8 +31,7 @@ pub record Talks {S K B : Type 0} (comes : S → List ℕ → Type 0) (holds : K
     pub gave : Gave holds k0 (texts exchanges) k
     pub asks : asked exchanges ≡ done
     pub cut : (more : List ℕ) → lines_of (read ++ more) ≡ done ++ lines_of more
-    pub before : (more : List Line) → before_quit (done ++ more) ≡ done ++ before_quit more
-    pub quitting : (more : List Line) → quits (done ++ more) ≡ quits more
+    pub on : GoOn exchanges
     pub said : (more : List Exchange) (torn : Option Exchange) (later : Trace) (end : SessionPoint B) →
         Converses means auto b more torn later end → Converses means auto b0 (exchanges ++ more) torn (events ++ later)
         end
@@ -43,6 +43,10 @@ texts-append (x ∷ xs) ys = ap (λ t. response_text x.1 ++ t) (texts-append xs 
 
 texts-one : (xs : List Exchange) (x : Exchange) → texts xs ++ response_text x.1 ≡ texts (xs ++ x ∷ [])
 texts-one xs x = ap (λ t. texts xs ++ t) (sym (append-nil (response_text x.1))) ∙ sym (texts-append xs (x ∷ []))
+
+go_on_more : (xs : List Exchange) (x : Exchange) → GoOn xs → goes_on x ≡ true → GoOn (xs ++ x ∷ [])
+go_on_more [] x on q = (q, tt)
+go_on_more (y ∷ xs) x on q = (on.0, go_on_more xs x on.1 q)
 
 asked-one : (xs : List Exchange) (done : List Line) (x : Exchange) → asked xs ≡ done → asked (xs ++ x ∷ []) ≡ done ++
     x.0 ∷ []
@@ -63,14 +67,13 @@ module _ {S K B : Type 0} (comes : S → List ℕ → Type 0) (holds : K → Opt
     gave = appends_none (holds k);
     asks = refl;
     cut = λ more. refl;
-    before = λ more. refl;
-    quitting = λ more. refl;
+    on = tt;
     said = λ more torn later end h. h;
   }
 
   pub talk_more : (s0 s s' : S) (k0 k k' : K) (b0 b answered merging : SessionPoint B) (w w' : List ℕ) (e : Exchange)
       (own merged : Trace)
-      → So s0 k0 b0 w s k b → TookLine comes w s e.0 true w' s' → is_quit (parsed e.0) ≡ false →
+      → So s0 k0 b0 w s k b → TookLine comes w s e.0 true w' s' → goes_on e ≡ true →
       Gave holds k (response_text e.1) k' → AnswersLine means b e own answered
       → MergesAfter means auto answered merged merging → So s0 k0 b0 w' s' k' merging
   talk_more s0 s s' k0 k k' b0 b answered merging w w' e own merged t l q g a m = record {
@@ -84,11 +87,7 @@ module _ {S K B : Type 0} (comes : S → List ℕ → Type 0) (holds : K → Opt
     asks = asked-one t.exchanges t.done e t.asks;
     cut = λ more. ap lines_of (append_assoc t.read l.0 more) ∙ t.cut (l.0 ++ more) ∙ ap (λ z. t.done ++ z) (l.2 more) ∙
         sym (append_assoc t.done (e.0 ∷ []) (lines_of more));
-    before = λ more. ap before_quit (append_assoc t.done (e.0 ∷ []) more) ∙ t.before (e.0 ∷ more) ∙
-        ap (λ x. t.done ++ cond x [] (e.0 ∷ before_quit more)) q ∙
-        sym (append_assoc t.done (e.0 ∷ []) (before_quit more));
-    quitting = λ more. ap quits (append_assoc t.done (e.0 ∷ []) more) ∙ t.quitting (e.0 ∷ more) ∙
-        ap (λ x. cond x true (quits more)) q;
+    on = go_on_more t.exchanges e t.on q;
     said = λ more torn later end h.
         let next = t.said (e ∷ more) torn (own ++ (merged ++ later)) end (
           own,
@@ -122,48 +121,63 @@ module _ {S K B : Type 0} (comes : S → List ℕ → Type 0) (holds : K → Opt
       (append-nil t.exchanges) (t.said [] torn its b' a)
 
   asks_of : (s0 s : S) (k0 k : K) (b0 b : SessionPoint B) (w : List ℕ) (t : So s0 k0 b0 w s k b) →
-      AsksFor t.read t.exchanges
-  asks_of s0 s k0 k b0 b w t = t.asks ∙ sym (ap before_quit (all_of s0 s k0 k b0 b w t ∙ sym (append-nil t.done)) ∙
-      t.before [] ∙ append-nil t.done)
+      AsksFor t.read t.exchanges []
+  asks_of s0 s k0 k b0 b w t = record {
+    are = all_of s0 s k0 k b0 b w t ∙ sym t.asks ∙ sym (append-nil (asked t.exchanges));
+    on = t.on;
+  }
 
-  quits_of : (s0 s : S) (k0 k : K) (b0 b : SessionPoint B) (w : List ℕ) (t : So s0 k0 b0 w s k b) →
-      quits (lines_of t.read) ≡ false
-  quits_of s0 s k0 k b0 b w t = ap quits (all_of s0 s k0 k b0 b w t ∙ sym (append-nil t.done)) ∙ t.quitting []
+  -- and nothing comes of the session's wait for a further one but that its transaction may lapse
+  rests : (s0 s : S) (k0 k : K) (b0 b b' : SessionPoint B) (w : List ℕ) (t : So s0 k0 b0 w s k b) (is_late : Bool)
+      (idle : Trace) → Waits means is_late b idle b' →
+      Rests means auto b0 t.exchanges None ((t.events ++ []) ++ idle) b'
+  rests s0 s k0 k b0 b b' w t is_late idle waits = (
+    b,
+    t.events ++ [],
+    idle,
+    is_late,
+    said_all s0 s k0 k b0 b w t None [] b (refl, refl),
+    waits,
+    refl,
+  )
+
+  -- nothing was waited for
+  rests_there : (b0 b' : SessionPoint B) (exchanges : List Exchange) (torn : Option Exchange) (own : Trace) →
+      Converses means auto b0 exchanges torn own b' → Rests means auto b0 exchanges torn (own ++ []) b'
+  rests_there b0 b' exchanges torn own c = (b', own, [], false, c, (refl, refl), refl)
 
   -- no line is left
-  pub talk_end : (s0 s s' : S) (k0 k : K) (b0 b : SessionPoint B) (w w' : List ℕ)
-      → So s0 k0 b0 w s k b → TookAhead comes w s [] w' s' → IsAtEnd comes w' s' → Talked comes holds means auto s0 k0
-      b0 s' k b EndOfInput
-  talk_end s0 s s' k0 k b0 b w w' t f e = record {
+  pub talk_end : (s0 s s' : S) (k0 k : K) (b0 b b' : SessionPoint B) (w w' : List ℕ) → So s0 k0 b0 w s k b →
+      MayWait means b b' → TookAhead comes w s [] w' s' → IsAtEnd comes w' s' →
+      Talked comes holds means auto s0 k0 b0 s' k b' EndOfInput
+  talk_end s0 s s' k0 k b0 b b' w w' t waits f e = record {
     read = t.read;
     exchanges = t.exchanges;
-    events = t.events ++ [];
+    events = (t.events ++ []) ++ waits.1;
     takes = took_total comes s0 s' (t.read ++ []) w' t.read (took_then comes [] w w' s0 s s' t.read [] t.took f)
         (ap (λ z. (t.read ++ []) ++ z) e.0 ∙ append-nil (t.read ++ []) ∙ append-nil t.read);
     done = e.1;
-    no_quit = quits_of s0 s k0 k b0 b w t;
     lines = asks_of s0 s k0 k b0 b w t;
     gives = t.gave;
-    does = said_all s0 s k0 k b0 b w t None [] b (refl, refl);
+    does = rests s0 s k0 k b0 b b' w t waits.0 waits.1 waits.2;
   }
 
   -- the source failed within a line
-  pub talk_failed : (s0 s s' : S) (k0 k : K) (b0 b : SessionPoint B) (w w' : List ℕ)
-      → So s0 k0 b0 w s k b → TookPart comes w s w' s' → w' ≡ [] → Talked comes holds means auto s0 k0 b0 s' k b
-      ReadFailed
-  talk_failed s0 s s' k0 k b0 b w w' t l e = record {
+  pub talk_failed : (s0 s s' : S) (k0 k : K) (b0 b b' : SessionPoint B) (w w' : List ℕ) → So s0 k0 b0 w s k b →
+      MayWait means b b' → TookPart comes w s w' s' → w' ≡ [] →
+      Talked comes holds means auto s0 k0 b0 s' k b' ReadFailed
+  talk_failed s0 s s' k0 k b0 b b' w w' t waits l e = record {
     read = t.read;
     part = l.0;
     exchanges = t.exchanges;
-    events = t.events ++ [];
+    events = (t.events ++ []) ++ waits.1;
     takes = took_total comes s0 s' (t.read ++ l.0) w' (t.read ++ l.0) (took_then comes [] w w' s0 s s' t.read l.0 t.took
         l.2) (ap (λ z. (t.read ++ l.0) ++ z) e ∙ append-nil (t.read ++ l.0));
     ended = λ more. t.cut more ∙ ap (λ z. z ++ lines_of more) (sym (all_of s0 s k0 k b0 b w t));
     begins = l.1;
-    no_quit = quits_of s0 s k0 k b0 b w t;
     lines = asks_of s0 s k0 k b0 b w t;
     gives = t.gave;
-    does = said_all s0 s k0 k b0 b w t None [] b (refl, refl);
+    does = rests s0 s k0 k b0 b b' w t waits.0 waits.1 waits.2;
   }
 
   -- a line that was taken is the only one of its bytes
@@ -193,33 +207,36 @@ module _ {S K B : Type 0} (comes : S → List ℕ → Type 0) (holds : K → Opt
     took_more = took_total comes s0 s' (t.read ++ l.0) w' ((t.read ++ l.0) ++ w')
         (took_then comes [] w w' s0 s s' t.read l.0 t.took l.1) refl
 
-    before_more : is_quit (parsed line) ≡ false → before_quit (lines_of (t.read ++ l.0)) ≡ t.done ++ (line ∷ [])
-    before_more q = ap before_quit lines_more ∙ t.before (line ∷ []) ∙ ap (λ x. t.done ++ cond x [] (line ∷ [])) q
-
-    quits_more : is_quit (parsed line) ≡ false → quits (lines_of (t.read ++ l.0)) ≡ false
-    quits_more q = ap quits lines_more ∙ t.quitting (line ∷ []) ∙ ap (λ x. cond x true false) q
-
     -- QUIT was read
-    pub talk_quit : is_quit (parsed line) ≡ true → Talked comes holds means auto s0 k0 b0 s' k b Quit
-    talk_quit q = record {
+    pub talk_quit : (b' : SessionPoint B) → MayWait means b b' → is_quit (parsed line) ≡ true →
+        Talked comes holds means auto s0 k0 b0 s' k b' Quit
+    talk_quit b' waits q = record {
       read = t.read ++ l.0;
       waiting = w';
       exchanges = t.exchanges;
-      events = t.events ++ [];
+      events = (t.events ++ []) ++ waits.1;
       takes = took_more;
       whole = whole_of s s' w w' line ended l t.read t.done t.cut;
-      quit = ap quits lines_more ∙ t.quitting (line ∷ []) ∙ ap (λ x. cond x true false) q;
-      lines = t.asks ∙ sym (ap before_quit lines_more ∙ t.before (line ∷ []) ∙ ap (λ x. t.done ++ cond x [] (line ∷ []))
-          q ∙ append-nil t.done);
+      last = line;
+      quit = q;
+      lines = record { are = lines_more ∙ ap (λ z. z ++ line ∷ []) (sym t.asks); on = t.on };
       gives = subst (λ (x : List ℕ). Gave holds k0 x k) (sym (append-nil (texts t.exchanges))) t.gave;
       parts = tt;
-      does = said_all s0 s k0 k b0 b w t None [] b (refl, refl);
+      does = rests s0 s k0 k b0 b b' w t waits.0 waits.1 waits.2;
+    }
+
+    -- one line more was read and answered
+    asks_more : (e : Exchange) → e.0 ≡ line → goes_on e ≡ true → AsksFor (t.read ++ l.0) (t.exchanges ++ e ∷ []) []
+    asks_more e same q = record {
+      are = lines_more ∙ sym (append-nil (asked (t.exchanges ++ e ∷ [])) ∙ asked-one t.exchanges t.done e t.asks ∙
+          ap (λ z. t.done ++ z ∷ []) same);
+      on = go_on_more t.exchanges e t.on q;
     }
 
   -- a line was read, and not wholly answered
   pub talk_torn : (s0 s s' : S) (k0 k k' : K) (b0 b b' : SessionPoint B) (w w' : List ℕ) (e : Exchange) (ended : Bool)
       (its : Trace) (n : ℕ)
-      → So s0 k0 b0 w s k b → TookLine comes w s e.0 ended w' s' → is_quit (parsed e.0) ≡ false →
+      → So s0 k0 b0 w s k b → TookLine comes w s e.0 ended w' s' → goes_on e ≡ true →
       Gave holds k (take n (response_text e.1)) k' → AnswersLine means b e its b'
       → Talked comes holds means auto s0 k0 b0 s' k' b' WriteFailed
   talk_torn s0 s s' k0 k k' b0 b b' w w' e ended its n t l q g a = record {
@@ -227,42 +244,41 @@ module _ {S K B : Type 0} (comes : S → List ℕ → Type 0) (holds : K → Opt
     waiting = w';
     exchanges = t.exchanges;
     last = e;
-    events = t.events ++ its;
+    events = (t.events ++ its) ++ [];
     count = n;
     takes = took_more s0 s s' k0 k b0 b w w' e.0 ended t l;
     whole = whole_of s s' w w' e.0 ended l t.read t.done t.cut;
-    no_quit = quits_more s0 s s' k0 k b0 b w w' e.0 ended t l q;
-    lines = asked-one t.exchanges t.done e t.asks ∙ sym (before_more s0 s s' k0 k b0 b w w' e.0 ended t l q);
+    lines = asks_more s0 s s' k0 k b0 b w w' e.0 ended t l e refl q;
     gives = gave_then holds k0 k k' (texts t.exchanges) (take n (response_text e.1)) t.gave g;
-    does = said_all s0 s k0 k b0 b w t (Some e) its b' a;
+    does = rests_there b0 b' t.exchanges (Some e) (t.events ++ its) (said_all s0 s k0 k b0 b w t (Some e) its b' a);
   }
 
   -- the last line, which no LF ended, was read and answered
   pub talk_last : (s0 s s' : S) (k0 k k' : K) (b0 b answered merging : SessionPoint B) (w w' : List ℕ) (e : Exchange)
       (own merged : Trace)
-      → So s0 k0 b0 w s k b → TookLine comes w s e.0 false w' s' → is_quit (parsed e.0) ≡ false →
+      → So s0 k0 b0 w s k b → TookLine comes w s e.0 false w' s' → goes_on e ≡ true →
       Gave holds k (response_text e.1) k' → AnswersLine means b e own answered
       → MergesAfter means auto answered merged merging → Talked comes holds means auto s0 k0 b0 s' k' merging EndOfInput
   talk_last s0 s s' k0 k k' b0 b answered merging w w' e own merged t l q g a m = record {
     read = t.read ++ l.0;
     exchanges = t.exchanges ++ e ∷ [];
-    events = t.events ++ (own ++ (merged ++ []));
+    events = (t.events ++ (own ++ (merged ++ []))) ++ [];
     takes = took_total comes s0 s' (t.read ++ l.0) w' (t.read ++ l.0) (took_then comes [] w w' s0 s s' t.read l.0 t.took
         l.1) (ap (λ z. (t.read ++ l.0) ++ z) l.2.1.0 ∙ append-nil (t.read ++ l.0));
     done = l.2.1.1;
-    no_quit = quits_more s0 s s' k0 k b0 b w w' e.0 false t l q;
-    lines = asked-one t.exchanges t.done e t.asks ∙ sym (before_more s0 s s' k0 k b0 b w w' e.0 false t l q);
+    lines = asks_more s0 s s' k0 k b0 b w w' e.0 false t l e refl q;
     gives = subst (λ (x : List ℕ). Gave holds k0 x k') (texts-one t.exchanges e)
         (gave_then holds k0 k k' (texts t.exchanges) (response_text e.1) t.gave g);
-    does = t.said (e ∷ []) None (own ++ (merged ++ [])) merging (
-      own,
-      merged,
-      [],
-      answered,
-      merging,
-      a,
-      m,
-      (refl, refl),
-      refl,
-    );
+    does = rests_there b0 merging (t.exchanges ++ e ∷ []) None (t.events ++ (own ++ (merged ++ [])))
+        (t.said (e ∷ []) None (own ++ (merged ++ [])) merging (
+          own,
+          merged,
+          [],
+          answered,
+          merging,
+          a,
+          m,
+          (refl, refl),
+          refl,
+        ));
   }

@@ -1,3 +1,5 @@
+pub mod Heard
+pub mod Waits
 pub mod OneAnswer
 pub mod ServedSessions
 pub mod Stops

@@ -1,21 +1,29 @@
 -- One line answered, or its answer torn.
-use Rattle.std.specs.Prelude.{ℕ, List, Option, take}
+use Rattle.std.specs.Prelude.{◌≡◌, ℕ, List, Option, take}
 use Rattle.am_serial.specs.Trace.{Trace}
 use Rattle.am_sink.specs.SinkWrites.{Gave}
 use Rattle.am_dialogue.specs.Responses.{response_text}
 use Rattle.am_dialogue.specs.Backends.{BackendMeaning}
-use Rattle.am_dialogue.specs.Conversation.{SessionPoint, AnswersParsed}
-use Rattle.am_dialogue.specs.declared.lines.ParsedLine.{ParsedLine}
+use Rattle.am_dialogue.specs.Conversation.{SessionPoint, Stays, AnswersParsed}
 use Rattle.am_dialogue.specs.declared.response.Response.{Response}
+use Rattle.am_dialogue.specs.declared.response.Response.TheVariants.{Lapsed}
+use Rattle.am_session.specs.declared.heard.Heard.{Heard}
+use Rattle.am_session.specs.declared.heard.Heard.TheVariants.{Line, Late}
 
--- the line was answered, and the answer written
+-- what was heard was answered; what came too late did nothing
+abbrev pub RespondsTo : {B : Type 0} → BackendMeaning B → SessionPoint B → Heard → Response → Trace → SessionPoint B →
+    Type 0
+RespondsTo means old (Line parsed) response events new = AnswersParsed means old parsed response events new
+RespondsTo means old Late response events new = (response ≡ Lapsed) × Stays means old events new
+
+-- and the answer written
 abbrev pub GivesAnswer : {K B : Type 0} → (K → Option (List ℕ)) → BackendMeaning B → K → SessionPoint B →
-    ParsedLine → K → SessionPoint B → Type 0
-GivesAnswer holds means k b parsed k' b' = (response : Response) × (events : Trace) ×
-    Gave holds k (response_text response) k' × AnswersParsed means b parsed response events b'
+    Heard → K → SessionPoint B → Type 0
+GivesAnswer holds means k b heard k' b' = (response : Response) × (events : Trace) ×
+    Gave holds k (response_text response) k' × RespondsTo means b heard response events b'
 
--- the line was answered, and a beginning of the answer written
-abbrev pub GivesTorn : {K B : Type 0} → (K → Option (List ℕ)) → BackendMeaning B → K → SessionPoint B → ParsedLine → K →
+-- and a beginning of the answer written
+abbrev pub GivesTorn : {K B : Type 0} → (K → Option (List ℕ)) → BackendMeaning B → K → SessionPoint B → Heard → K →
     SessionPoint B → Type 0
-GivesTorn holds means k b parsed k' b' = (response : Response) × (events : Trace) × (n : ℕ) ×
-    Gave holds k (take n (response_text response)) k' × AnswersParsed means b parsed response events b'
+GivesTorn holds means k b heard k' b' = (response : Response) × (events : Trace) × (n : ℕ) ×
+    Gave holds k (take n (response_text response)) k' × RespondsTo means b heard response events b'

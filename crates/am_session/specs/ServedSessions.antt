@@ -1,11 +1,11 @@
 -- What a session did, by its end: which bytes it read, which text it wrote, and where it left its backend.
-use Rattle.std.specs.Prelude.{◌≡◌, ℕ, List, [], ◌∷◌, ◌++◌, true, false, Option, Some, None, take, ◌⊎◌}
+use Rattle.std.specs.Prelude.{◌≡◌, ℕ, List, [], ◌∷◌, ◌++◌, Bool, true, cond, not, Option, Some, None, take, ◌⊎◌}
 use Rattle.am_stream.specs.Lines.{lines_of, HasNoLf}
 use Rattle.am_stream.specs.SourceReads.{Took}
 use Rattle.am_sink.specs.SinkWrites.{Gave}
 use Rattle.am_serial.specs.Trace.{Trace}
-use Rattle.am_dialogue.specs.ParsedLine.{before_quit, quits}
-use Rattle.am_dialogue.specs.Responses.{bye, response_text}
+use Rattle.am_dialogue.specs.ParsedLine.{Line, parsed, is_quit}
+use Rattle.am_dialogue.specs.Responses.{bye, response_text, is_lapsed}
 use Rattle.am_dialogue.specs.Exchanges.{Exchange, asked, texts}
 use Rattle.am_dialogue.specs.Backends.{BackendMeaning}
 use Rattle.am_dialogue.specs.Conversation.{AnswersAll}
@@ -18,9 +18,18 @@ use Rattle.am_session.specs.declared.end.End.TheVariants.{Quit, EndOfInput, Read
 abbrev pub IsEnded : List ℕ → Type 0
 IsEnded bytes = (more : List ℕ) → lines_of (bytes ++ more) ≡ lines_of bytes ++ lines_of more
 
--- the lines of these bytes up to QUIT
-abbrev pub AsksFor : List ℕ → List Exchange → Type 0
-AsksFor read exchanges = asked exchanges ≡ before_quit (lines_of read)
+-- whether a session goes on behind an exchange: it ends at QUIT, unless that came too late
+abbrev pub goes_on : Exchange → Bool
+goes_on e = cond (is_lapsed e.1) true (not (is_quit (parsed e.0)))
+
+abbrev pub GoOn : List Exchange → Type 0
+GoOn [] = Unit {0}
+GoOn (e ∷ exchanges) = (goes_on e ≡ true) × GoOn exchanges
+
+-- the lines of these bytes were answered, but for these at the end, and at none of them the session ended
+pub record AsksFor (read : List ℕ) (exchanges : List Exchange) (rest : List Line) : Type 0 where
+  pub are : lines_of read ≡ asked exchanges ++ rest
+  pub on : GoOn exchanges
 
 -- By these bytes were taken, by these given, behind which BYE was said, and whether nothing more comes; by exchanges,
 -- the one whose answer was torn, if one was, and their events; and by where a session is left that did nothing.
@@ -38,8 +47,9 @@ module _ (took gave parted : List ℕ → Type 0) (nothing_comes : Type 0)
     pub events : Trace
     pub takes : took (read ++ waiting)
     pub whole : AreWhole read waiting
-    pub quit : quits (lines_of read) ≡ true
-    pub lines : AsksFor read exchanges
+    pub last : Line
+    pub quit : is_quit (parsed last) ≡ true
+    pub lines : AsksFor read exchanges (last ∷ [])
     pub gives : gave (texts exchanges ++ farewell)
     pub parts : parted (texts exchanges)
     pub does : answers exchanges None events
@@ -51,8 +61,7 @@ module _ (took gave parted : List ℕ → Type 0) (nothing_comes : Type 0)
     pub events : Trace
     pub takes : took read
     pub done : nothing_comes
-    pub no_quit : quits (lines_of read) ≡ false
-    pub lines : AsksFor read exchanges
+    pub lines : AsksFor read exchanges []
     pub gives : gave (texts exchanges)
     pub does : answers exchanges None events
 
@@ -65,8 +74,7 @@ module _ (took gave parted : List ℕ → Type 0) (nothing_comes : Type 0)
     pub takes : took (read ++ part)
     pub ended : IsEnded read
     pub begins : HasNoLf part
-    pub no_quit : quits (lines_of read) ≡ false
-    pub lines : AsksFor read exchanges
+    pub lines : AsksFor read exchanges []
     pub gives : gave (texts exchanges)
     pub does : answers exchanges None events
 
@@ -80,8 +88,7 @@ module _ (took gave parted : List ℕ → Type 0) (nothing_comes : Type 0)
     pub count : ℕ
     pub takes : took (read ++ waiting)
     pub whole : AreWhole read waiting
-    pub no_quit : quits (lines_of read) ≡ false
-    pub lines : AsksFor read (exchanges ++ last ∷ [])
+    pub lines : AsksFor read (exchanges ++ last ∷ []) []
     pub gives : gave (texts exchanges ++ take count (response_text last.1))
     pub does : answers exchanges (Some last) events
 

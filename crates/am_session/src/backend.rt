@@ -1,6 +1,6 @@
 //! What a session stands on.
 
-ghost use Rattle.std.specs.Prelude.{◌≡◌, None};
+ghost use Rattle.std.specs.Prelude.{◌≡◌, None, true};
 ghost use Rattle.am_record.specs.Sessions.{IsAllowed, active_after};
 ghost use Rattle.am_dialogue.specs.Actions.{EndsAbort};
 ghost use Rattle.am_dialogue.specs.Backends.{BackendMeaning};
@@ -33,6 +33,10 @@ pub trait Backend {
     fn hold<W: Wait + Clock>(&self, rt: &W, millis: u64) -> HoldAnswer
         requires idle { means.active self.now ≡ None }
         ensures holds { means.holds self.now millis result };
+
+    /// Whether a transaction is aborted where no line comes of its session for too long.
+    fn may_lapse(&self) -> bool
+        ensures lapses { result ≡ true → means.lapses };
 
     /// Returns once it is the session's turn, which has no transaction active: a line of it may be answered, and no
     /// other holds.

@@ -1,50 +1,21 @@
 //! A session over any backend, line by line.
 
-ghost use Rattle.std.specs.Prelude.{◌≡◌, ◌+◌, ◌^◌, ◌<◌, [], false, Option, Some, OnOk, OnErr, IfOk};
-ghost use Rattle.std.specs.Prelude.{IfSome, IfNone, true};
+ghost use Rattle.std.specs.Prelude.{◌≡◌, ◌+◌, ◌^◌, ◌<◌, true, false, OnOk, OnErr};
 ghost use Rattle.am_sink.specs.SinkWrites.{Wrote};
-ghost use Rattle.am_stream.specs.Lines.{has_lf, TookLine, TookPart};
-ghost use Rattle.am_stream.specs.LineAnswers.{seen};
-ghost use Rattle.am_stream.specs.SourceReads.{TookAhead, IsAtEnd};
+ghost use Rattle.am_stream.specs.Lines.{has_lf};
 ghost use Rattle.am_dialogue.specs.Responses.{response_text};
 ghost use Rattle.am_serial.specs.Trace.{Trace};
 ghost use Rattle.am_dialogue.specs.Conversation.{AnswersParsed, MergesAfter};
-ghost use Rattle.am_session.specs.OneAnswer.{GivesAnswer, GivesTorn};
+ghost use Rattle.am_session.specs.OneAnswer.{RespondsTo, GivesAnswer, GivesTorn};
 
 use crate::backend::Backend;
+use crate::heard::Heard;
 use am_dialogue::{Action, ParsedLine, Response, Session, put_response};
 use am_record::Step;
 use am_sink::{Failed, Sink};
-use am_stream::{AnsweredSource, FoundLine, Input, LineBuffer, read_line};
+use am_stream::Input;
 use std::rt::Clock;
 use std::sync::Wait;
-
-/// Takes the next line. The source is asked only where no whole line is at hand, and then nothing is unsent.
-pub(crate) fn next_line<W: Wait, K: Sink, S: AnsweredSource<K>>(
-    rt: &W,
-    input: &mut Input,
-    source: &mut S,
-    sink: &K,
-    line: &mut LineBuffer,
-) -> Result<Option<FoundLine>, Failed>
-    requires countable { S.failures source.old < 2 ^ 63 }
-    requires sent { has_lf input.old ≡ false → K.pending sink.now ≡ false }
-    ensures line { IfOk result (λ found. IfSome found (λ f.
-        TookLine S.comes input.old source.old (seen f.kind line.new) f.is_ended input.new source.new)) }
-    ensures end { IfOk result (λ found. IfNone found
-        (TookAhead S.comes input.old source.old [] input.new source.new × IsAtEnd S.comes input.new source.new)) }
-    ensures ok { OnOk result (S.failures source.new ≡ S.failures source.old) }
-    ensures failed { OnErr result (S.failures source.new ≡ S.failures source.old + 1) }
-    ensures part { OnErr result (TookPart S.comes input.old source.old input.new source.new) }
-    ensures empty { OnErr result (input.new ≡ []) }
-    ensures sent_at_end { IfOk result (λ found. IfNone found (K.pending sink.now ≡ false)) }
-    ensures sent_at_failure { OnErr result (K.pending sink.now ≡ false) }
-{
-    if let Some(found) = input.take_line(line) {
-        return Ok(Some(found));
-    }
-    read_line(rt, input, source, sink, line)
-}
 
 // A session that would begin a transaction waits until it may.
 fn await_ticket<W: Wait + Clock, B: Backend>(rt: &W, backend: &B, step: &Step) {
@@ -107,28 +78,46 @@ fn send<K: Sink>(
     sink.flush()
 }
 
-/// Answers a line, and sends the answers on, unless a whole line is at hand and is answered at once: answers to lines
-/// that came together go out together.
+// What is due for what was heard.
+fn respond_to<W: Wait + Clock, B: Backend>(
+    rt: &W,
+    backend: &mut B,
+    session: &mut Session,
+    heard: Heard,
+) -> Response
+    requires { B.means.active backend.old ≡ session.old.active }
+    ensures responds { (events : Trace) × RespondsTo B.means (backend.old, session.old.staged) heard result events
+        (backend.new, session.new.staged) }
+    ensures active { B.means.active backend.new ≡ session.new.active }
+{
+    match heard {
+        Heard::Line(parsed) => respond(rt, backend, session, parsed),
+        Heard::Late => Response::Lapsed,
+    }
+}
+
+/// Answers what was heard, and sends the answers on, unless a whole line is at hand and is answered at once: answers to
+/// lines that came together go out together.
 pub(crate) fn answer<W: Wait + Clock, K: Sink, B: Backend>(
     rt: &W,
     input: &Input,
     sink: &mut K,
     backend: &mut B,
     session: &mut Session,
-    parsed: ParsedLine,
+    heard: Heard,
 ) -> Result<(), Failed>
     requires countable { K.failures sink.old < 2 ^ 63 }
     requires active { B.means.active backend.old ≡ session.old.active }
     ensures active { B.means.active backend.new ≡ session.new.active }
     ensures answered { OnOk result (GivesAnswer K.holds B.means sink.old
-        (backend.old, session.old.staged) parsed sink.new (backend.new, session.new.staged)) }
+        (backend.old, session.old.staged) heard sink.new (backend.new, session.new.staged)) }
     ensures sent { OnOk result (has_lf input.now ≡ false → K.pending sink.new ≡ false) }
     ensures ok { OnOk result (K.failures sink.new ≡ K.failures sink.old) }
     ensures failed { OnErr result (K.failures sink.new ≡ K.failures sink.old + 1) }
     ensures torn { OnErr result (GivesTorn K.holds B.means sink.old
-        (backend.old, session.old.staged) parsed sink.new (backend.new, session.new.staged)) }
+        (backend.old, session.old.staged) heard sink.new (backend.new, session.new.staged)) }
 {
-    let response = respond(rt, backend, session, parsed);
+    let response = respond_to(rt, backend, session, heard);
     let is_kept = session.active().is_none() && gives_way(rt, backend);
     send(sink, input, &response, is_kept)
 }

@@ -1,10 +1,12 @@
 //! Sessions: lines in, one answer line for each, over any backend.
 #![tactic(auto)]
 
+mod awaiting;
 mod backend;
 mod conversation;
 mod end;
 mod hash_key_draw;
+mod heard;
 mod parting_sink;
 mod session;
 

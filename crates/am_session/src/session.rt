@@ -6,11 +6,13 @@ ghost use Rattle.am_serial.specs.Trace.{Trace};
 ghost use Rattle.am_dialogue.specs.Conversation.{Leaves};
 ghost use Rattle.am_session.specs.Stops.{Talked, reads_failed, writes_failed, IsSentBy};
 
+use crate::awaiting::next_line;
 use crate::backend::Backend;
-use crate::conversation::{answer, merge, next_line};
+use crate::conversation::{answer, merge};
 use crate::end::End;
+use crate::heard::{Heard, hear};
 use crate::parting_sink::PartingSink;
-use am_dialogue::{ParsedLine, Session, parse};
+use am_dialogue::Session;
 use am_record::Step;
 use am_sink::{Failed, Sink};
 use am_stream::{AnsweredSource, Input, LineBuffer};
@@ -28,13 +30,8 @@ enum Stop {
 }
 
 // Returns once the line may be answered. Who would hold hears at once where another does.
-fn await_turn<W: Wait + Clock, B: Backend>(
-    rt: &W,
-    backend: &B,
-    session: &Session,
-    parsed: &ParsedLine,
-) {
-    if session.active().is_none() && !parsed.is_hold() {
+fn await_turn<W: Wait + Clock, B: Backend>(rt: &W, backend: &B, session: &Session, heard: &Heard) {
+    if session.active().is_none() && !heard.is_hold() {
         backend.await_turn(rt);
     }
 }
@@ -64,18 +61,19 @@ fn talk<W: Wait + Clock, K: Sink, S: AnsweredSource<K>, B: Backend>(
     ensures sink_failures { K.failures sink.new ≡ K.failures sink.old + writes_failed result }
 {
     'lines: for _ in rt.forever() {
-        let Ok(next) = next_line(rt, input, source, sink, line) else {
+        let Ok(next) = next_line(rt, input, source, sink, line, backend, session) else {
             return Stop::ReadFailed;
         };
-        let Some(found) = next else {
+        let Some(read) = next else {
             return Stop::EndOfInput;
         };
-        let parsed = parse(alloc, found.kind, line.as_slice());
-        await_turn(rt, backend, session, &parsed);
-        if parsed.is_quit() {
+        let found = read.found;
+        let heard = hear(alloc, read.is_late, found.kind, line.as_slice());
+        await_turn(rt, backend, session, &heard);
+        if heard.is_quit() {
             return Stop::Quit;
         }
-        let Ok(()) = answer(rt, input, sink, backend, session, parsed) else {
+        let Ok(()) = answer(rt, input, sink, backend, session, heard) else {
             return Stop::WriteFailed;
         };
         merge(rt, backend, session, auto);
@@ -98,7 +96,9 @@ fn leave<W: Wait, B: Backend>(rt: &W, backend: &mut B, active: Option<u64>)
 }
 
 /// Answers the lines of a source up to the first QUIT, each by one line, merges once after each answer where `auto` is
-/// above 0, and at the end aborts what is active. The sink has nothing that isn't sent on.
+/// above 0, and at the end aborts what is active. The sink has nothing that isn't sent on. Where the source says that
+/// no line came in time, and the backend that its transactions may lapse, the one that is active is aborted, and the
+/// line that comes then is told so, whatever it says, QUIT too.
 ///
 /// The backend takes the steps of the lines, the merges and the last Abort; each line that is written is the text of a
 /// line's fault, or of the reply to its step, however the source cuts its bytes. Nothing is unsent whenever the source

@@ -48,9 +48,15 @@ pub record ShowsCounts (old : SessionSeatState) (number commits : ℕ) (new : Se
   pub saw : new ≡ record old { counter_seat = record old.counter_seat { saw = commits } }
   pub later : (old.counter_seat.saw ≤ commits) × (old.counter_seat.published ≤ commits)
 
--- who would hold may hear anything: that is for the turnstile
+-- who would hold may hear anything: that is for the turnstile; and when a transaction lapses is for the clock
 abbrev pub seat_meaning : BackendMeaning SessionSeatState
-seat_meaning = record { active = open_at; steps = MakesCall; shows = ShowsCounts; holds = λ p millis answer. Unit {0} }
+seat_meaning = record {
+  active = open_at;
+  steps = MakesCall;
+  shows = ShowsCounts;
+  holds = λ p millis answer. Unit {0};
+  lapses = Unit {0};
+}
 
 -- the number is drawn, unless 2 ^ 50 were
 abbrev pub HasDrawn : SessionSeatState → Bool → SessionSeatState → Type 0

@@ -167,6 +167,11 @@ impl<'a, L: LatchName> Backend for SessionSeat<'a, L> {
         }
     }
 
+    // Whether it does is for the clock, and for how the server was started.
+    fn may_lapse(&self) -> bool {
+        true
+    }
+
     fn await_turn<W: Wait + Clock>(&self, rt: &W) {
         self.turnstile.await_turn(rt, self.place, self.number);
     }

@@ -199,16 +199,18 @@ module _ (run : ℕ) (above : run ≢ 0) where
   count-changed gone t runs op reply es g = omega arith
 
   -- what a step moves out of the run and what is left there is no more than what was there and what it loads
-  count-step : (s : Store) (step : Step) (reply : Reply) → IsRising s.entries → MayReply s step reply →
+  count-step : (most_runs : ℕ) (s : Store) (step : Step) (reply : Reply) → IsRising s.entries →
+      MayReply most_runs s step reply →
       moved_from run step reply + count run (entries_after s step reply) ≤ count run s.entries + loaded_into run
       s.state.runs step reply
-  count-step s (Do t op) reply r may = let h = count-changed (gone_back t s.past s.entries) t s.state.runs op reply
+  count-step most_runs s (Do t op) reply r may = let h = count-changed (gone_back t s.past s.entries) t s.state.runs op
+      reply
       s.entries (count-reslotted run (λ part key x. left_at t (part, key)
       (moments_since t s.past 0) s.entries) s.entries) in omega arith
-  count-step s (Abort t) Aborted r may = let h = count-reslotted run
+  count-step most_runs s (Abort t) Aborted r may = let h = count-reslotted run
       (λ part key x. left_at t (part, key) s.past s.entries) s.entries in
       omega arith
-  count-step s (Merge limit) reply r may = ⊎_elim
+  count-step most_runs s (Merge limit) reply r may = ⊎_elim
       (λ right. let h = merge_counts run above s.entries s.wishes (holder s.state.active) limit reply r right.1 in
       omega arith)
       (λ bad. subst (λ x. moved_from run (Merge limit) x + count run
@@ -220,17 +222,19 @@ module _ (run : ℕ) (above : run ≢ 0) where
           (all_worked_off (merged_by s.entries wishes (Refused BadLimit)) s.entries) ≤ count run s.entries + 0
       none [] = omega arith
       none (w ∷ ws) = omega arith
-  count-step s (Clean range limit) (Cleaned n) r may =
+  count-step most_runs s (Clean range limit) (Cleaned n) r may =
       let h = not_more run above (cleaned_by s.entries (holder s.state.active) range (Cleaned n)) s.entries in
       omega arith
-  count-step s step reply r may = omega arith
+  count-step most_runs s step reply r may = omega arith
 
-  once_from : (before : Trace) (s : Store) (trace : Trace) → Right before s → Follows s trace →
+  once_from : (most_runs : ℕ) (before : Trace) (s : Store) (trace : Trace) → Right most_runs before s →
+      Follows most_runs s trace →
       all_moved_from run trace ≤ count run s.entries + all_loaded_into run s trace
-  once_from before s [] r h = omega arith
-  once_from before s (e ∷ trace) r h =
-      let now = count-step s e.0 e.1 r.at.has.rising h.0 in
-      let rest = once_from (before ++ e ∷ []) (after_step s e.0 e.1) trace (one_more before s e r h.0) h.1 in
+  once_from most_runs before s [] r h = omega arith
+  once_from most_runs before s (e ∷ trace) r h =
+      let now = count-step most_runs s e.0 e.1 r.at.has.rising h.0 in
+      let rest = once_from most_runs (before ++ e ∷ []) (after_step s e.0 e.1) trace
+      (one_more most_runs before s e r h.0) h.1 in
       omega arith
 
 -- ---- reads
@@ -306,15 +310,17 @@ asked_from before s (e ∷ trace) h = (
 )
 
 -- in partition 0 nothing is moved from
-never_from_0 : (before : Trace) (s : Store) (trace : Trace) → Right before s → Follows s trace →
+never_from_0 : (most_runs : ℕ) (before : Trace) (s : Store) (trace : Trace) → Right most_runs before s →
+    Follows most_runs s trace →
     all_moved_from 0 trace ≡ 0
-never_from_0 before s [] r h = refl
-never_from_0 before s (e ∷ trace) r h =
+never_from_0 most_runs before s [] r h = refl
+never_from_0 most_runs before s (e ∷ trace) r h =
     let now = at_step s e.0 e.1 r.at.has.rising h.0 in
-    let rest = never_from_0 (before ++ e ∷ []) (after_step s e.0 e.1) trace (one_more before s e r h.0) h.1 in
+    let rest = never_from_0 most_runs (before ++ e ∷ []) (after_step s e.0 e.1) trace
+    (one_more most_runs before s e r h.0) h.1 in
     omega arith
   where
-    at_step : (s : Store) (step : Step) (reply : Reply) → IsRising s.entries → MayReply s step reply →
+    at_step : (s : Store) (step : Step) (reply : Reply) → IsRising s.entries → MayReply most_runs s step reply →
         moved_from 0 step reply ≡ 0
     at_step s (Merge limit) (Moved n r) rise may = ⊎_elim
         (λ right. by_wishes s.wishes right.1)
@@ -345,12 +351,13 @@ never_from_0 before s (e ∷ trace) r h =
                 (eqb-true c.part r (of_run (holder s.state.active) limit r (suc n) (c ∷ cs) b).0 ∙ eqb-true r 0 z))
     at_step s step reply rise may = refl
 
-pub asked : (trace : Trace) → Follows opened trace → IsAsked trace
-asked trace h = record {
+pub asked : (most_runs : ℕ) (trace : Trace) → Follows most_runs opened trace → IsAsked trace
+asked most_runs trace h = record {
   read = asked_from [] opened trace tt;
   once = λ run. ⊎_elim
-      (λ yes. let none = never_from_0 [] opened trace at_start h in
+      (λ yes. let none = never_from_0 most_runs [] opened trace (at_start most_runs) h in
       subst (λ r. all_moved_from r trace ≤ all_loaded_into r opened trace) (sym (eqb-true run 0 yes)) (omega arith))
-      (λ no. let bound = once_from run (eqb-false run 0 no) [] opened trace at_start h in omega arith)
+      (λ no. let bound = once_from run (eqb-false run 0 no) most_runs [] opened trace (at_start most_runs) h in
+      omega arith)
       (cases_Bool (run == 0));
 }

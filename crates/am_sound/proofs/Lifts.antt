@@ -1,8 +1,10 @@
 -- A step that is right of what the store keeps is right at its trace.
 use Rattle.std.proofs.Common.{◌≡◌, ◌≤◌, ◌<◌, ◌+◌, ℕ, List, [], ◌∷◌, ◌++◌, length, map, Bool, true, false, cond, ◌≢◌}
 use Rattle.std.proofs.Common.{◌&&◌, refl, sym, ap, ◌∙◌, subst, ⊎_elim, inl, inr, ◌⊎◌, Option, Some, None, arith}
-use Rattle.std.specs.Prelude.{◌==◌, not, nat_le, MatchOption}
-use Rattle.std.proofs.lemmas.Bool.{cond-true, cond-false, both_ways, eq-eqb, ne_eqb, false≢true}
+use Rattle.std.specs.Prelude.{◌==◌, ◌||◌, not, nat_le, MatchOption}
+use Rattle.std.specs.FinMap.{get, contains_key}
+use Rattle.std.proofs.lemmas.Bool.{cond-true, cond-false, both_ways, eq-eqb, ne_eqb, false≢true, and_from, leb-true}
+use Rattle.std.proofs.lemmas.Bool.{le-leb}
 use Rattle.std.proofs.lemmas.List.{map-append, length-map}
 use Rattle.std.proofs.lemmas.Simd.{map-map}
 use Rattle.am_record.specs.ByNumber.{of_number, with_changed}
@@ -22,10 +24,13 @@ use Rattle.am_sound.proofs.RepresentsLaws.{goes_on}
 use Rattle.am_sound.specs.Represents.{RepresentsNext, stored_answer}
 use Rattle.am_index.specs.Content.{content}
 use Rattle.am_index.specs.Entries.{find}
+use Rattle.am_parts.specs.Catalogs.{runs_in}
+use Rattle.am_parts.proofs.OpenRuns.{few_runs}
+use Rattle.am_index.proofs.RunLaws.{run_laws}
 use Rattle.am_record.specs.Asks.{lock_of, locks_of}
 use Rattle.am_record.specs.Interval.{Interval}
 use Rattle.am_record.specs.OrderedKey.{OrderedKey}
-use Rattle.am_record.specs.Plain.{answer, is_orderly}
+use Rattle.am_record.specs.Plain.{PlainMap, answer, is_orderly, found, exists_or_done, least_taken}
 use Rattle.am_record.specs.declared.lock.Lock.{Lock as TheLock}
 use Rattle.am_record.specs.declared.entry.Entry.{Entry}
 use Rattle.am_record.specs.declared.step.Op.{Op}
@@ -34,16 +39,18 @@ use Rattle.am_record.specs.declared.step.Refusal.{Refusal}
 use Rattle.am_record.specs.declared.step.Refusal.TheVariants.{BadLimit, NoMemory, NoSuchTx, NotRising, TooManyOps}
 use Rattle.am_record.specs.declared.step.Refusal.TheVariants.{TooManyRuns, TooManyTx}
 use Rattle.am_record.specs.declared.step.Reply.{Reply}
-use Rattle.am_record.specs.declared.step.Reply.TheVariants.{Aborted, Begun, Committed, Done, NoMark, Refused}
+use Rattle.am_record.specs.declared.step.Reply.TheVariants.{Aborted, Begun, Committed, Done, Exists, Missing, NoMark}
+use Rattle.am_record.specs.declared.step.Reply.TheVariants.{Refused}
 use Rattle.am_record.specs.declared.step.Step.{Step}
 use Rattle.am_record.specs.declared.step.Step.TheVariants.{Abort, Begin, Clean, Commit, Do, Merge}
 use Rattle.am_serial.proofs.Bodies.{locks_of-push}
 use Rattle.am_serial.proofs.OneStep.{step_laws}
 use Rattle.am_serial.proofs.States.{overlay_laws, view_laws}
 use Rattle.am_serial.specs.Laws.{OverlayLaws, ViewLaws}
-use Rattle.am_record.specs.Refusals.{lock_refusal, is_bounded, is_load, is_one_too_many, or_else}
+use Rattle.am_record.specs.Refusals.{lock_refusal, is_bounded, is_load, is_one_too_many, or_else, refusal_before_lock}
 use Rattle.am_serial.specs.Machine.{State, Transaction, blocker, body_in, due, extended, is_open, locks_in, owns_in}
-use Rattle.am_serial.specs.Machine.{view, without_transaction}
+use Rattle.am_serial.specs.Machine.{is_full, says_full, view, without_transaction}
+use Rattle.am_serial.proofs.Runs.{none_without}
 use Rattle.am_record.specs.Events.{Event}
 use Rattle.am_serial.specs.Trace.{Answered, Trace, ops_of, runs_made}
 use Rattle.am_sound.proofs.KeptEntries.{not_begun}
@@ -51,7 +58,8 @@ use Rattle.am_sound.proofs.Whole.{Right, changed_refused, either_way, marks_left
 use Rattle.am_sound.proofs.Whole.{notes_left_refused, right_at}
 use Rattle.am_sound.specs.StateOf.{IsStateOf, active_of, state_of}
 use Rattle.am_sound.specs.StoreState.{Active, IsFit, MayAnswer, StoreState, state_after, taken_back_to_mark, blocker_in}
-use Rattle.am_sound.specs.StoreState.{newcomer, with_op, refusal_in, without_tx, holder_in, in_table, is_in}
+use Rattle.am_sound.specs.StoreState.{newcomer, with_op, has_all_runs, refusal_in, without_tx, holder_in, in_table}
+use Rattle.am_sound.specs.StoreState.{is_in}
 use Rattle.am_sound.specs.StoreState.{takes_memory}
 use Rattle.am_undo.proofs.NotesSinceMarks.{mark_laws}
 use Rattle.am_record.specs.Marks.{since_mark, has_mark}
@@ -197,32 +205,98 @@ wished_refused : (op : Op) (why : Refusal) → wished op (Refused why) ≡ None
 wished_refused (Get k) why = refl
 wished_refused op why = refl
 
+-- ---- whether a further run may be made
+
+-- an answer doesn't say that none may be
+says_answer : (op : Op) (marks : List ℕ) (m : PlainMap) → says_full (stored_answer op marks m) ≡ false
+says_answer (Get k) marks m = at (get m k)
+  where
+    at : (o : Option (List ℕ)) → says_full (found o) ≡ false
+    at None = refl
+    at (Some v) = refl
+says_answer (Insert k v) marks m = elim (contains_key m k) as (λ b. says_full (cond b (Exists k) Done) ≡ false)
+    [ true ↦ refl | false ↦ refl ]
+says_answer (Replace k v) marks m = elim (contains_key m k) as (λ b. says_full (cond b Done Missing) ≡ false)
+    [ true ↦ refl | false ↦ refl ]
+says_answer (Delete k) marks m = elim (contains_key m k) as (λ b. says_full (cond b Done Missing) ≡ false)
+    [ true ↦ refl | false ↦ refl ]
+says_answer (Load pairs) marks m = at (least_taken pairs m)
+  where
+    at : (o : Option OrderedKey) → says_full (exists_or_done o) ≡ false
+    at None = refl
+    at (Some k) = refl
+says_answer Back marks m = elim (has_mark marks) as (λ b. says_full (cond b Done NoMark) ≡ false)
+    [ true ↦ refl | false ↦ refl ]
+says_answer op marks m = refl
+
+-- the refusals in their order
+abbrev InOrder : Bool → Bool → Bool → Bool → Bool → Bool → Option ℕ → Bool → Option Refusal
+InOrder a b c d load full blocked many = or_else
+    (cond a (Some NoSuchTx) (cond b (Some TooManyOps) (cond c (Some NotRising) (cond d (Some BadLimit)
+    (cond (load && full) (Some TooManyRuns) None))))) (lock_refusal blocked many)
+
+-- the reply is the refusal, and where there is none it doesn't say that no further run may be made
+abbrev Tells : Reply → Option Refusal → Type 0
+Tells reply due = MatchOption due (says_full reply ≡ false) (λ why. reply ≡ Refused why)
+
+module _ (reply : Reply) (k : Bool) (blocked : Option ℕ) (many : Bool) where
+  tells_not : (blocked : Option ℕ) (many : Bool) → Tells reply (lock_refusal blocked many) → says_full reply ≡ false
+  tells_not (Some h) many m = ap says_full m
+  tells_not None true m = ap says_full m
+  tells_not None false m = m
+
+  -- the reply tells whether as many runs have entries as may have
+  full_alike : (a b c d load made left : Bool) → (left ≡ true → k ≡ true) →
+      Tells reply (InOrder a b c d load (made || left) blocked many) →
+      InOrder a b c d load (made || (k && says_full reply)) blocked many ≡
+      InOrder a b c d load (made || left) blocked many
+  full_alike true b c d load made left most m = refl
+  full_alike false true c d load made left most m = refl
+  full_alike false false true d load made left most m = refl
+  full_alike false false false true load made left most m = refl
+  full_alike false false false false false made left most m = refl
+  full_alike false false false false true true left most m = refl
+  full_alike false false false false true false true most m =
+      ap (λ f. or_else (cond f (Some TooManyRuns) None) (lock_refusal blocked many))
+      (and_from k (says_full reply) (most refl) (ap says_full m))
+  full_alike false false false false true false false most m =
+      ap (λ f. or_else (cond f (Some TooManyRuns) None) (lock_refusal blocked many))
+      (neither k (says_full reply) (tells_not blocked many m))
+    where
+      neither : (b c : Bool) → c ≡ false → (b && c) ≡ false
+      neither true c h = h
+      neither false c h = refl
+
 -- ---- the store at a trace
 
-module _ (trace : Trace) (s : Store) (r : Right trace s) where
+module _ (most_runs : ℕ) (trace : Trace) (s : Store) (r : Right most_runs trace s) where
   o : OverlayLaws s.state
-  o = subst (λ (st : State). OverlayLaws st) (sym r.is) (overlay_laws trace r.runs)
+  o = subst (λ (st : State). OverlayLaws st) (sym r.is) (overlay_laws most_runs trace r.runs)
 
   w : ViewLaws s.state
-  w = subst (λ (st : State). ViewLaws st) (sym r.is) (view_laws trace r.runs)
+  w = subst (λ (st : State). ViewLaws st) (sym r.is) (view_laws most_runs trace r.runs)
 
   go : RepresentsNext s.state s.entries s.notes s.marks
   go = goes_on s.state o w (step_laws s.state) s.entries s.notes s.marks r.at
 
-  due_is : (t : ℕ) (op : Op) → refusal_in (state_of s) t op ≡ due s.state t op
+  abbrev full : Bool
+  full = has_all_runs (state_of most_runs s)
+
+  due_is : (t : ℕ) (op : Op) → refusal_in (state_of most_runs s) t op ≡ due full s.state t op
   due_is t op =
       let a = is_in-map s.notes s.marks s.state.active t in
       let b = ops-map s.notes s.marks s.state.active t in
       let c = blocker-map s.notes s.marks s.state.active t (lock_of op) in
       let d = locks-map s.notes s.marks s.state.active t in
-      λ i. or_else
-      (cond (not (a i)) (Some NoSuchTx)
-      (cond (nat_le 4096 (b i)) (Some TooManyOps)
-      (cond (not (is_orderly op)) (Some NotRising)
-      (cond (not (is_bounded op)) (Some BadLimit)
-      (cond (is_load op && nat_le 65535 s.state.runs) (Some TooManyRuns)
-      None)))))
-      (lock_refusal (c i) (is_one_too_many (d i) (lock_of op)))
+      λ i. or_else (refusal_before_lock (a i) (b i) full op) (lock_refusal (c i) (is_one_too_many (d i) (lock_of op)))
+
+  -- 65,535 runs were made where so many have entries
+  as_many_made : nat_le 65535 (runs_in s.entries) ≡ true → nat_le 65535 s.state.runs ≡ true
+  as_many_made h = le-leb 65535 s.state.runs (omega (
+    arith,
+    leb-true 65535 (runs_in s.entries) h,
+    few_runs s.state.runs s.entries ((run_laws s.entries r.at.has.rising).nothing_above s.state.runs r.keeps.below),
+  ))
 
   holders_are : holder_in (map (active_of s.notes s.marks) s.state.active) ≡ holder s.state.active
   holders_are i q = holder-map s.notes s.marks s.state.active q i
@@ -232,7 +306,7 @@ module _ (trace : Trace) (s : Store) (r : Right trace s) where
   marks_are t o = marks-map s.notes s.marks s.state.active t o
 
   -- who asks is active where no refusal is due
-  is_active : (t : ℕ) (op : Op) → due s.state t op ≡ None → is_open s.state.active t ≡ true
+  is_active : (t : ℕ) (op : Op) → due false s.state t op ≡ None → is_open s.state.active t ≡ true
   is_active t op e = ((step_laws s.state).granted t op e).is_active
 
   abbrev Given : ℕ → Op → Reply → Option Refusal → Type 0
@@ -240,23 +314,46 @@ module _ (trace : Trace) (s : Store) (r : Right trace s) where
       (in_table (map (active_of s.notes s.marks) s.state.active) t).marks (content s.entries)) ⊎
       ((reply ≡ Refused NoMemory) × (takes_memory op ≡ true))) (λ why. reply ≡ Refused why)
 
-  may_do : (t : ℕ) (op : Op) (reply : Reply) → MayAnswer (state_of s) (Do t op) reply → MayReply s (Do t op) reply
-  may_do t op reply h = by_due (due s.state t op) refl (subst (Given t op reply) (due_is t op) h)
+  tells : (t : ℕ) (op : Op) (reply : Reply) (o : Option Refusal) → Given t op reply o → Tells reply o
+  tells t op reply None m = ⊎_elim
+      (λ a. ap says_full a ∙
+      says_answer op (in_table (map (active_of s.notes s.marks) s.state.active) t).marks (content s.entries))
+      (λ w. ap says_full w.0) m
+  tells t op reply (Some why) m = m
+
+  -- the refusal that the machine owes where this was replied is the one that the store owes
+  owed : (t : ℕ) (op : Op) (reply : Reply) → Given t op reply (due full s.state t op) →
+      due (is_full most_runs s.state.runs reply) s.state t op ≡ due full s.state t op
+  owed t op reply m = full_alike reply (nat_le 65535 s.state.runs) (blocker s.state.active t (lock_of op))
+      (is_one_too_many (locks_in s.state.active t) (lock_of op)) (not (is_open s.state.active t))
+      (nat_le 4096 (length (body_in s.state.active t))) (not (is_orderly op)) (not (is_bounded op)) (is_load op)
+      (nat_le most_runs s.state.runs) (nat_le 65535 (runs_in s.entries)) as_many_made
+      (tells t op reply (due full s.state t op) m)
+
+  may_do : (t : ℕ) (op : Op) (reply : Reply) → MayAnswer (state_of most_runs s) (Do t op) reply →
+      MayReply most_runs s (Do t op) reply
+  may_do t op reply h =
+      let given = subst (Given t op reply) (due_is t op) h in
+      by_due (is_full most_runs s.state.runs reply) (due (is_full most_runs s.state.runs reply) s.state t op) refl
+      (subst (Given t op reply) (sym (owed t op reply given)) given)
     where
-      by_due : (o : Option Refusal) → due s.state t op ≡ o → Given t op reply o →
-          MatchOption (due s.state t op) ((reply ≡ answer op (view s.state t)) ⊎ (reply ≡ Refused NoMemory))
+      by_due : (now : Bool) (o : Option Refusal) → due now s.state t op ≡ o → Given t op reply o →
+          MatchOption (due now s.state t op) ((reply ≡ answer op (view s.state t)) ⊎ (reply ≡ Refused NoMemory))
           (λ why. reply ≡ Refused why)
-      by_due None e m = subst (λ o. MatchOption o ((reply ≡ answer op (view s.state t)) ⊎ (reply ≡ Refused NoMemory))
+      by_due now None e m = subst
+          (λ o. MatchOption o ((reply ≡ answer op (view s.state t)) ⊎ (reply ≡ Refused NoMemory))
           (λ why. reply ≡ Refused why)) (sym e)
           (⊎_elim (λ a. inl (a ∙ ap (λ (ms : List ℕ). stored_answer op ms (content s.entries))
-          (marks_are t (is_active t op e)) ∙ sym (go.answered t op e))) (λ w. inr w.0) m)
-      by_due (Some why) e m = subst (λ o. MatchOption o ((reply ≡ answer op (view s.state t)) ⊎
+          (marks_are t (is_active t op (none_without now s.state t op e))) ∙
+          sym (go.answered t op (none_without now s.state t op e)))) (λ w. inr w.0) m)
+      by_due now (Some why) e m = subst (λ o. MatchOption o ((reply ≡ answer op (view s.state t)) ⊎
           (reply ≡ Refused NoMemory)) (λ why. reply ≡ Refused why)) (sym e) m
 
   -- Back is answered Done where a mark stands
-  mark_stands : (t : ℕ) → MayReply s (Do t Back) Done → (is_open s.state.active t ≡ true) ×
+  mark_stands : (t : ℕ) → MayReply most_runs s (Do t Back) Done → (is_open s.state.active t ≡ true) ×
       (has_mark (s.marks t) ≡ true)
-  mark_stands t h = by_due (due s.state t Back) refl h
+  mark_stands t h = by_due (is_full most_runs s.state.runs Done)
+      (due (is_full most_runs s.state.runs Done) s.state t Back) refl h
     where
       not_refused : (why : Refusal) → ◌≡◌ {A = Reply} Done (Refused why) → ⊥
       not_refused why e = cc
@@ -265,16 +362,16 @@ module _ (trace : Trace) (s : Store) (r : Right trace s) where
       stands true e = refl
       stands false e = cc
 
-      by_due : (o : Option Refusal) → due s.state t Back ≡ o →
+      by_due : (now : Bool) (o : Option Refusal) → due now s.state t Back ≡ o →
           MatchOption o ((Done ≡ answer Back (view s.state t)) ⊎ (Done ≡ Refused NoMemory))
           (λ why. Done ≡ Refused why) →
           (is_open s.state.active t ≡ true) × (has_mark (s.marks t) ≡ true)
-      by_due None e m = (
-        is_active t Back e,
-        ⊎_elim (λ a. stands (has_mark (s.marks t)) (a ∙ go.answered t Back e))
+      by_due now None e m = (
+        is_active t Back (none_without now s.state t Back e),
+        ⊎_elim (λ a. stands (has_mark (s.marks t)) (a ∙ go.answered t Back (none_without now s.state t Back e)))
             (λ w. absurd (not_refused NoMemory w)) m,
       )
-      by_due (Some why) e m = absurd (not_refused why m)
+      by_due now (Some why) e m = absurd (not_refused why m)
 
   same_open : (t : ℕ) → is_in (map (active_of s.notes s.marks) s.state.active) t ≡ is_open s.state.active t
   same_open t = is_in-map s.notes s.marks s.state.active t
@@ -282,7 +379,8 @@ module _ (trace : Trace) (s : Store) (r : Right trace s) where
   long : length (map (active_of s.notes s.marks) s.state.active) ≡ length s.state.active
   long = length-map s.state.active (active_of s.notes s.marks)
 
-  pub may_reply : (step : Step) (reply : Reply) → MayAnswer (state_of s) step reply → MayReply s step reply
+  pub may_reply : (step : Step) (reply : Reply) → MayAnswer (state_of most_runs s) step reply →
+      MayReply most_runs s step reply
   may_reply Begin (Begun t) h = (h.0, subst (λ n. n < 64) long h.1, h.2)
   may_reply Begin (Refused TooManyTx) h = ⊎_elim (λ a. inl (subst (λ n. 64 ≤ n) long a)) (λ b. inr b) h
   may_reply (Do t op) reply h = may_do t op reply h
@@ -300,7 +398,8 @@ module _ (trace : Trace) (s : Store) (r : Right trace s) where
   unborn : (t : ℕ) → t ≡ s.state.begun + 1 → is_open s.state.active t ≡ false
   unborn t e = not_begun s.state w (step_laws s.state) s.entries s.past s.notes s.marks r.keeps t e
 
-  begun_parts : (t : ℕ) → t ≡ s.state.begun + 1 → state_of (after_step s Begin (Begun t)) ≡ state_after (state_of s)
+  begun_parts : (t : ℕ) → t ≡ s.state.begun + 1 → state_of most_runs (after_step s Begin (Begun t)) ≡ state_after
+      (state_of most_runs s)
       Begin (Begun t)
   begun_parts t e =
       let notes' = λ (u : ℕ). cond (t == u) [] (s.notes u) in
@@ -323,6 +422,7 @@ module _ (trace : Trace) (s : Store) (r : Right trace s) where
         marks = own_marks i;
       } ∷ []) in
       λ i. record {
+        most_runs = most_runs;
         entries = s.entries;
         wishes = s.wishes;
         begun = s.state.begun + 1;
@@ -332,7 +432,8 @@ module _ (trace : Trace) (s : Store) (r : Right trace s) where
       }
 
   -- going back is taking back what was noted since the mark
-  backed_is : (t : ℕ) → MayReply s (Do t Back) Done → gone_back t s.past s.entries ≡ taken_back_to_mark (state_of s) t
+  backed_is : (t : ℕ) → MayReply most_runs s (Do t Back) Done → gone_back t s.past s.entries ≡ taken_back_to_mark
+      (state_of most_runs s) t
   backed_is t h =
       let stands = mark_stands t h in
       (back_laws t s.past s.entries (s.notes t) (s.marks t) (r.keeps.describes t stands.0) stands.1).backed
@@ -340,13 +441,14 @@ module _ (trace : Trace) (s : Store) (r : Right trace s) where
       ∙ (λ i. taken_back (since_mark (sym (marks-map s.notes s.marks s.state.active t stands.0) i)
       (sym (notes-map s.notes s.marks s.state.active t stands.0) i)) s.entries)
 
-  back_counts : (t : ℕ) (op : Op) (reply : Reply) → MayReply s (Do t op) reply → goes_back op reply ≡ true →
-      gone_back t s.past s.entries ≡ taken_back_to_mark (state_of s) t
+  back_counts : (t : ℕ) (op : Op) (reply : Reply) → MayReply most_runs s (Do t op) reply → goes_back op reply ≡ true →
+      gone_back t s.past s.entries ≡ taken_back_to_mark (state_of most_runs s) t
   back_counts t Back Done h e = backed_is t h
   back_counts t op reply h e = absurd (false≢true e)
 
-  do_parts : (t : ℕ) (op : Op) (reply : Reply) → MayReply s (Do t op) reply → state_of (after_step s (Do t op) reply) ≡
-      state_after (state_of s) (Do t op) reply
+  do_parts : (t : ℕ) (op : Op) (reply : Reply) → MayReply most_runs s (Do t op) reply →
+      state_of most_runs (after_step s (Do t op) reply) ≡
+      state_after (state_of most_runs s) (Do t op) reply
   do_parts t op (Refused why) h =
       let es = changed_refused (gone_back t s.past s.entries) s.state.runs op why s.entries in
       let ws : with_wish s.wishes (wished op (Refused why)) ≡ s.wishes =
@@ -361,6 +463,7 @@ module _ (trace : Trace) (s : Store) (r : Right trace s) where
             either_way (t == u) (s.marks u),
       )) in
       λ i. record {
+        most_runs = most_runs;
         entries = es i;
         wishes = ws i;
         begun = s.state.begun;
@@ -369,10 +472,12 @@ module _ (trace : Trace) (s : Store) (r : Right trace s) where
         active = table i;
       }
   do_parts t op reply h =
-      let es = changed_alike (gone_back t s.past s.entries) (taken_back_to_mark (state_of s) t) s.state.runs op reply
+      let es = changed_alike (gone_back t s.past s.entries) (taken_back_to_mark (state_of most_runs s) t) s.state.runs
+      op reply
       s.entries (back_counts t op reply h) in
       let table = did_all t op reply (noted s.state.runs op reply s.entries) s.notes s.marks s.state.active in
       λ i. record {
+        most_runs = most_runs;
         entries = es i;
         wishes = with_wish s.wishes (wished op reply);
         begun = s.state.begun;
@@ -381,10 +486,12 @@ module _ (trace : Trace) (s : Store) (r : Right trace s) where
         active = table i;
       }
 
-  ended_parts : (t c : ℕ) → state_of (after_step s (Commit t) (Committed c)) ≡ state_after (state_of s) (Commit t)
+  ended_parts : (t c : ℕ) → state_of most_runs (after_step s (Commit t) (Committed c)) ≡ state_after
+      (state_of most_runs s) (Commit t)
       (Committed c)
   ended_parts t c = let table = ended-map s.notes s.marks t s.state.active in
       λ i. record {
+        most_runs = most_runs;
         entries = s.entries;
         wishes = s.wishes;
         begun = s.state.begun;
@@ -393,8 +500,9 @@ module _ (trace : Trace) (s : Store) (r : Right trace s) where
         active = table i;
       }
 
-  aborted_parts : (t : ℕ) → is_open s.state.active t ≡ true → state_of (after_step s (Abort t) Aborted) ≡ state_after
-      (state_of s) (Abort t) Aborted
+  aborted_parts : (t : ℕ) → is_open s.state.active t ≡ true → state_of most_runs (after_step s (Abort t) Aborted) ≡
+      state_after
+      (state_of most_runs s) (Abort t) Aborted
   aborted_parts t on =
       let table = ended-map s.notes s.marks t s.state.active in
       let es : aborted t s.past s.entries ≡ taken_back
@@ -404,6 +512,7 @@ module _ (trace : Trace) (s : Store) (r : Right trace s) where
       (r.keeps.describes t on))).aborted r.at.has.rising ∙ ap (λ ns. taken_back ns s.entries)
       (sym (notes-map s.notes s.marks s.state.active t on)) in
       λ i. record {
+        most_runs = most_runs;
         entries = es i;
         wishes = s.wishes;
         begun = s.state.begun;
@@ -412,10 +521,12 @@ module _ (trace : Trace) (s : Store) (r : Right trace s) where
         active = table i;
       }
 
-  clean_parts : (range : Interval) (limit : ℕ) (reply : Reply) → state_of (after_step s (Clean range limit) reply) ≡
-      state_after (state_of s) (Clean range limit) reply
+  clean_parts : (range : Interval) (limit : ℕ) (reply : Reply) →
+      state_of most_runs (after_step s (Clean range limit) reply) ≡
+      state_after (state_of most_runs s) (Clean range limit) reply
   clean_parts range limit reply = sym (ap (λ (hs : Holders).
       record {
+        most_runs = most_runs;
         entries = all_worked_off (cleaned_by s.entries hs range reply) s.entries;
         wishes = s.wishes;
         begun = s.state.begun;
@@ -424,8 +535,9 @@ module _ (trace : Trace) (s : Store) (r : Right trace s) where
         active = map (active_of s.notes s.marks) s.state.active;
       }) holders_are)
 
-  pub parts_after : (step : Step) (reply : Reply) → MayReply s step reply → state_of (after_step s step reply) ≡
-      state_after (state_of s) step reply
+  pub parts_after : (step : Step) (reply : Reply) → MayReply most_runs s step reply →
+      state_of most_runs (after_step s step reply) ≡
+      state_after (state_of most_runs s) step reply
   parts_after Begin (Begun t) h = begun_parts t h.0
   parts_after Begin (Refused why) h = refl
   parts_after (Do t op) reply h = do_parts t op reply h
@@ -438,10 +550,10 @@ module _ (trace : Trace) (s : Store) (r : Right trace s) where
 
 -- ---- whole traces
 
-follows_push : (trace : Trace) (s : Store) (e : Event) → Follows s trace → MayReply (after_all s trace) e.0 e.1 →
-    Follows s (trace ++ e ∷ [])
-follows_push [] s e f m = (m, tt)
-follows_push (x ∷ trace) s e f m = (f.0, follows_push trace (after_step s x.0 x.1) e f.1 m)
+follows_push : (most_runs : ℕ) (trace : Trace) (s : Store) (e : Event) → Follows most_runs s trace →
+    MayReply most_runs (after_all s trace) e.0 e.1 → Follows most_runs s (trace ++ e ∷ [])
+follows_push most_runs [] s e f m = (m, tt)
+follows_push most_runs (x ∷ trace) s e f m = (f.0, follows_push most_runs trace (after_step s x.0 x.1) e f.1 m)
 
 after_all-push : (trace : Trace) (s : Store) (e : Event) → after_all s (trace ++ e ∷ []) ≡ after_step
     (after_all s trace) e.0 e.1
@@ -451,20 +563,26 @@ after_all-push (x ∷ trace) s e = after_all-push trace (after_step s x.0 x.1) e
 pub lift : (trace : Trace) (p : StoreState) (step : Step) (reply : Reply) → IsStateOf trace p → MayAnswer p step reply →
     IsStateOf (trace ++ (step, reply) ∷ []) (state_after p step reply)
 lift trace p step reply at may =
+    let most_runs = p.most_runs in
     let s = after_all opened trace in
-    let r = right_at trace at.follows in
-    let m : MayReply s step reply = may_reply trace s r step reply
+    let r = right_at most_runs trace at.follows in
+    let m : MayReply most_runs s step reply = may_reply most_runs trace s r step reply
     (subst (λ (x : StoreState). MayAnswer x step reply) at.here may) in
+    let longer = trace ++ (step, reply) ∷ [] in
+    let next : state_after p step reply ≡ state_of most_runs (after_all opened longer) =
+    ap (λ (x : StoreState). state_after x step reply) at.here ∙ sym (parts_after most_runs trace s r step reply m) ∙
+    ap (state_of most_runs) (sym (after_all-push trace opened (step, reply))) in
+    let kept : (state_after p step reply).most_runs ≡ most_runs = ap (λ (x : StoreState). x.most_runs) next in
     record {
-      follows = follows_push trace opened (step, reply) at.follows m;
-      here = ap (λ (x : StoreState). state_after x step reply) at.here ∙ sym (parts_after trace s r step reply m) ∙
-          ap state_of (sym (after_all-push trace opened (step, reply)));
+      follows = subst (λ n. Follows n opened longer) (sym kept)
+          (follows_push most_runs trace opened (step, reply) at.follows m);
+      here = subst (λ n. state_after p step reply ≡ state_of n (after_all opened longer)) (sym kept) next;
     }
 
 -- ---- what a step may rest on
 
-fit_of : (trace : Trace) (s : Store) → Right trace s → IsFit (state_of s)
-fit_of trace s r = record {
+fit_of : (most_runs : ℕ) (trace : Trace) (s : Store) → Right most_runs trace s → IsFit (state_of most_runs s)
+fit_of most_runs trace s r = record {
   rising = r.at.has.rising;
   one_place = r.at.has.one_place;
   below = r.keeps.below;
@@ -486,4 +604,4 @@ fit_of trace s r = record {
 
 pub fit : (trace : Trace) (p : StoreState) → IsStateOf trace p → IsFit p
 fit trace p at = subst (λ (x : StoreState). IsFit x) (sym at.here)
-    (fit_of trace (after_all opened trace) (right_at trace at.follows))
+    (fit_of p.most_runs trace (after_all opened trace) (right_at p.most_runs trace at.follows))

@@ -141,15 +141,17 @@ module _ (s : State) (o : OverlayLaws s) (w : ViewLaws s) (st : StepLaws s) (es 
       owns_in s u q ≡ true → owns_in s t q ≡ false
   apart t u ht hu n q h = w.apart u t q hu ht n (owns_holds (locks_in s.active u) q h)
 
-  answered_law : (t : ℕ) (op : Op) → due s t op ≡ None → answer op (view s t) ≡ stored_answer op (marks t) (content es)
+  answered_law : (t : ℕ) (op : Op) → due false s t op ≡ None → answer op (view s t) ≡ stored_answer op (marks t)
+      (content es)
   answered_law t op none = by_op op none
     where
-      plain : (op : Op) → is_plain op ≡ true → due s t op ≡ None → answer op (view s t) ≡ stored_answer op (marks t)
+      plain : (op : Op) → is_plain op ≡ true → due false s t op ≡ None → answer op (view s t) ≡ stored_answer op
+          (marks t)
           (content es)
       plain op h none = (o.granted t op (plain_no_back op h) none).answered ∙ ap (map_answer op) (sym at.has.same) ∙
           sym (plain_told op (marks t) (content es) h)
 
-      by_op : (op : Op) → due s t op ≡ None → answer op (view s t) ≡ stored_answer op (marks t) (content es)
+      by_op : (op : Op) → due false s t op ≡ None → answer op (view s t) ≡ stored_answer op (marks t) (content es)
       by_op Mark none = refl
       by_op Back none = let on = (st.granted t Back none).is_active in any_is es (notes t) (owns_in s t) s.committed
           (length (notes t)) (marks t) (view s t).saved (at.undoes t on)
@@ -157,7 +159,7 @@ module _ (s : State) (o : OverlayLaws s) (w : ViewLaws s) (st : StepLaws s) (es 
 
   -- ---- an operation is answered
 
-  module _ (t : ℕ) (op : Op) (none : due s t op ≡ None) (reply : Reply) where
+  module _ (t : ℕ) (op : Op) (none : due false s t op ≡ None) (reply : Reply) where
     abbrev s' : State
     s' = next s (Answers t op reply)
 
@@ -237,7 +239,7 @@ module _ (s : State) (o : OverlayLaws s) (w : ViewLaws s) (st : StepLaws s) (es 
             runs = λ p q run gone. d.keeps u n p q run gone;
           })
 
-  done_law : (t : ℕ) (op : Op) (es' : List Entry) (new : List Note) → due s t op ≡ None → is_plain op ≡ true →
+  done_law : (t : ℕ) (op : Op) (es' : List Entry) (new : List Note) → due false s t op ≡ None → is_plain op ≡ true →
       Does es notes t op es' new →
       Represents (next s (Answers t op (answer op (view s t)))) es' (λ u. cond (t == u) (new ++ notes u) (notes u))
       marks
@@ -255,7 +257,7 @@ module _ (s : State) (o : OverlayLaws s) (w : ViewLaws s) (st : StepLaws s) (es 
   leaves_itself : (u : ℕ) → LeavesNoted es es (notes u) (owns_in s u)
   leaves_itself u = record { same = λ q h p. refl; runs = λ p q run gone. gone }
 
-  marked_law : (t : ℕ) → due s t Mark ≡ None → Represents (next s (Answers t Mark Done)) es notes
+  marked_law : (t : ℕ) → due false s t Mark ≡ None → Represents (next s (Answers t Mark Done)) es notes
       (λ u. cond (t == u) (length (notes u) ∷ marks u) (marks u))
   marked_law t none = record {
     has = record { rising = rising; one_place = one; same = at.has.same ∙ sym (o.granted t Mark refl none).changed };
@@ -305,7 +307,7 @@ module _ (s : State) (o : OverlayLaws s) (w : ViewLaws s) (st : StepLaws s) (es 
 
   -- ---- Back
 
-  module _ (t : ℕ) (none : due s t Back ≡ None) where
+  module _ (t : ℕ) (none : due false s t Back ≡ None) where
     back_on : is_open s.active t ≡ true
     back_on = (st.granted t Back none).is_active
 

@@ -45,12 +45,12 @@ use Rattle.am_record.specs.declared.step.Reply.TheVariants.{Refused}
 use Rattle.am_record.specs.declared.step.Step.{Step}
 use Rattle.am_record.specs.declared.step.Step.TheVariants.{Abort, Begin, Clean, Commit, Do, Merge}
 use Rattle.am_serial.proofs.OneStep.{step_laws}
-use Rattle.am_serial.proofs.Runs.{answer_is_answer, none_of_both, none_of_first, after_run-push}
+use Rattle.am_serial.proofs.Runs.{answer_is_answer, none_of_both, none_of_first, none_without, after_run-push}
 use Rattle.am_serial.proofs.States.{overlay_laws, view_laws}
 use Rattle.am_serial.specs.Laws.{OverlayLaws, ViewLaws}
 use Rattle.am_record.specs.Refusals.{is_limit}
 use Rattle.am_serial.specs.Machine.{May, MayDo, Runs, State, Transaction, after_run, body_in, due, due_early, due_lock}
-use Rattle.am_serial.specs.Machine.{is_open, next, owns_in, start, view}
+use Rattle.am_serial.specs.Machine.{is_full, is_open, next, owns_in, start, view}
 use Rattle.am_serial.specs.Steps.{StepLaws}
 use Rattle.am_record.specs.Events.{Event}
 use Rattle.am_serial.specs.Trace.{Aborts, Answers, Commits, Effect, Nothing, Trace, effect, effect_of_do, ops_of}
@@ -80,7 +80,7 @@ few zero xs = omega arith
 few (suc n) [] = omega arith
 few (suc n) (x ∷ xs) = let ih = few n xs in omega arith
 
-module _ (st : State) (limit : ℕ) (within : is_limit limit ≡ true) (es : List Entry) (held : Holders)
+module _ (most_runs : ℕ) (st : State) (limit : ℕ) (within : is_limit limit ≡ true) (es : List Entry) (held : Holders)
     (below : (p : ℕ) (q : OrderedKey) → st.runs < p → find es p q ≡ None) where
   in_runs : (c : Entry) → (c.part ≢ 0) × Stands es c → (1 ≤ c.part) × (c.part ≤ st.runs)
   in_runs c h = (omega (arith, h.0), omega (arith, high))
@@ -89,8 +89,8 @@ module _ (st : State) (limit : ℕ) (within : is_limit limit ≡ true) (es : Lis
       high up = none-some (slot_of c) (sym (below c.part c.key up) ∙ h.1)
 
   may_first : (c : Entry) (cs : List Entry) (o : Option ℕ) (reply : Reply) → (c.part ≢ 0) × Stands es c →
-      AnswersFirst es held limit c cs o reply → May st (Merge limit) reply
-  may_first c cs (Some h) reply stands e = subst (May st (Merge limit)) (sym e) within
+      AnswersFirst es held limit c cs o reply → May most_runs st (Merge limit) reply
+  may_first c cs (Some h) reply stands e = subst (May most_runs st (Merge limit)) (sym e) within
   may_first c cs None (Moved n run) stands e =
       let most_few = few limit cs in
       let most_fewer = fewer (prefix_len (λ (x : Entry). (x.part == run) && is_none (held x.key)) (take limit cs))
@@ -98,34 +98,35 @@ module _ (st : State) (limit : ℕ) (within : is_limit limit ≡ true) (es : Lis
       let at_most = e.1.at_most in
       let parts = in_runs c stands in
       (within, e.1.some, omega arith, subst (λ r. 1 ≤ r) (sym e.0) parts.0, subst (λ r. r ≤ st.runs) (sym e.0) parts.1)
-  may_first c cs None reply stands e = subst (May st (Merge limit)) (sym e.0) within
+  may_first c cs None reply stands e = subst (May most_runs st (Merge limit)) (sym e.0) within
 
   may_candidates : (cs : List Entry) (reply : Reply) → InRuns es cs → AnswersCandidates es held limit cs reply →
-      May st (Merge limit) reply
-  may_candidates [] reply stands e = subst (May st (Merge limit)) (sym e) within
+      May most_runs st (Merge limit) reply
+  may_candidates [] reply stands e = subst (May most_runs st (Merge limit)) (sym e) within
   may_candidates (c ∷ cs) reply stands e = may_first c (c ∷ cs) (held c.key) reply stands.0 e
 
   may_merge : (wishes : List Interval) (reply : Reply) → IsRising es → MergeRight es wishes held limit reply →
-      May st (Merge limit) reply
-  may_merge [] reply rise e = subst (May st (Merge limit)) (sym e) within
+      May most_runs st (Merge limit) reply
+  may_merge [] reply rise e = subst (May most_runs st (Merge limit)) (sym e) within
   may_merge (w ∷ ws) reply rise e = may_candidates (candidates es w) reply (candidates_stand es w rise) e
 
 lesser : (a b : ℕ) → min a b ≤ a
 lesser a b = min-le_left a b
 
-pub may_of : (s : Store) → IsRising s.entries →
+pub may_of : (most_runs : ℕ) (s : Store) → IsRising s.entries →
     ((p : ℕ) (q : OrderedKey) → s.state.runs < p → find s.entries p q ≡ None) → (step : Step) (reply : Reply) →
-    MayReply s step reply → May s.state step reply
-may_of s rise below (Merge limit) reply h = ⊎_elim
-    (λ right. may_merge s.state limit right.0 s.entries (holder s.state.active) below s.wishes reply rise right.1)
-    (λ bad. subst (May s.state (Merge limit)) (sym bad.1) bad.0)
+    MayReply most_runs s step reply → May most_runs s.state step reply
+may_of most_runs s rise below (Merge limit) reply h = ⊎_elim
+    (λ right. may_merge most_runs s.state limit right.0 s.entries (holder s.state.active) below s.wishes reply rise
+    right.1)
+    (λ bad. subst (May most_runs s.state (Merge limit)) (sym bad.1) bad.0)
     (by_limit limit reply _ h)
-may_of s rise below (Clean range limit) reply h = ⊎_elim
-    (λ right. subst (May s.state (Clean range limit)) (sym right.1)
+may_of most_runs s rise below (Clean range limit) reply h = ⊎_elim
+    (λ right. subst (May most_runs s.state (Clean range limit)) (sym right.1)
     (right.0, lesser limit (length (cleanable s.entries (holder s.state.active) range))))
-    (λ bad. subst (May s.state (Clean range limit)) (sym bad.1) bad.0)
+    (λ bad. subst (May most_runs s.state (Clean range limit)) (sym bad.1) bad.0)
     (by_limit limit reply _ h)
-may_of s rise below step reply h = h
+may_of most_runs s rise below step reply h = h
 
 pub merged_bad : (s : Store) (limit : ℕ) (reply : Reply) → reply ≡ Refused BadLimit →
     entries_after s (Merge limit) reply ≡ s.entries
@@ -149,9 +150,9 @@ untouched t past es a none = by_slot (look es a) refl
 pub rising-aborted : (t : ℕ) (past : List Moment) (es : List Entry) → IsRising es → IsRising (aborted t past es)
 rising-aborted t past es r = rising-reslotted (λ part key s. left_at t (part, key) past es) es r
 
-orderly_of : (s : State) (t : ℕ) (op : Op) → due s t op ≡ None → is_orderly op ≡ true
+orderly_of : (s : State) (t : ℕ) (op : Op) → due false s t op ≡ None → is_orderly op ≡ true
 orderly_of s t op none_due =
-    let both = none_of_both (due_early s t op) (due_lock s t op) none_due in
+    let both = none_of_both (due_early false s t op) (due_lock s t op) none_due in
     let open_ = none_of_first (not (is_open s.active t)) NoSuchTx _ both.0 in
     let few = none_of_first _ TooManyOps _ open_.1 in
     not-false (is_orderly op) (none_of_first (not (is_orderly op)) NotRising _ few.1).0
@@ -213,8 +214,8 @@ marks_left_plain op reply n marks plain = refl
 
 -- ---- the store at a trace
 
-pub record Right (trace : Trace) (s : Store) : Type 0 where
-  pub runs : Runs start trace
+pub record Right (most_runs : ℕ) (trace : Trace) (s : Store) : Type 0 where
+  pub runs : Runs most_runs start trace
   pub is : s.state ≡ after_run start trace
   pub at : Represents s.state s.entries s.notes s.marks
   pub keeps : Keeps s.state s.entries s.past s.notes s.marks
@@ -262,7 +263,7 @@ module _ (s : Store) (o : OverlayLaws s.state) (w : ViewLaws s.state)
   abbrev gone : ℕ → List Entry
   gone t = gone_back t s.past s.entries
 
-  granted_plain : (t : ℕ) (op : Op) → due s.state t op ≡ None → is_plain op ≡ true →
+  granted_plain : (t : ℕ) (op : Op) → due false s.state t op ≡ None → is_plain op ≡ true →
       Next s (Do t op) (answer op (view s.state t))
   granted_plain t op none plain =
       let reply = answer op (view s.state t) in
@@ -303,7 +304,7 @@ module _ (s : Store) (o : OverlayLaws s.state) (w : ViewLaws s.state)
   elsewhere t u A x y n = cond-false (t == u) x y (ne_eqb t u (λ e. n (sym e)))
 
   -- a mark is set
-  granted_mark : (t : ℕ) → due s.state t Mark ≡ None → Next s (Do t Mark) Done
+  granted_mark : (t : ℕ) → due false s.state t Mark ≡ None → Next s (Do t Mark) Done
   granted_mark t none =
       let grant = st.granted t Mark none in
       let marks' = λ (u : ℕ). cond (t == u) (length (s.notes u) ∷ s.marks u) (s.marks u) in
@@ -331,7 +332,7 @@ module _ (s : Store) (o : OverlayLaws s.state) (w : ViewLaws s.state)
       (k.owned t q ht wr))
 
   -- it goes back to the newest mark
-  gone_to_mark : (t : ℕ) → due s.state t Back ≡ None → has_mark (s.marks t) ≡ true → Next s (Do t Back) Done
+  gone_to_mark : (t : ℕ) → due false s.state t Back ≡ None → has_mark (s.marks t) ≡ true → Next s (Do t Back) Done
   gone_to_mark t none some =
       let grant = st.granted t Back none in
       let each = k.describes t grant.is_active in (
@@ -357,7 +358,7 @@ module _ (s : Store) (o : OverlayLaws s.state) (w : ViewLaws s.state)
       )
 
   -- no mark stands
-  no_mark : (t : ℕ) → due s.state t Back ≡ None → has_mark (s.marks t) ≡ false → Next s (Do t Back) NoMark
+  no_mark : (t : ℕ) → due false s.state t Back ≡ None → has_mark (s.marks t) ≡ false → Next s (Do t Back) NoMark
   no_mark t none any =
       let grant = st.granted t Back none in
       let same_notes : notes_after s (Do t Back) NoMark ≡ s.notes = λ i u. either_way (t == u) (s.notes u) i in
@@ -377,7 +378,7 @@ module _ (s : Store) (o : OverlayLaws s.state) (w : ViewLaws s.state)
             s.notes s.marks refl refl (λ u n. refl) (λ u n. refl),
       ))
 
-  granted_back : (t : ℕ) → due s.state t Back ≡ None → Next s (Do t Back) (answer Back (view s.state t))
+  granted_back : (t : ℕ) → due false s.state t Back ≡ None → Next s (Do t Back) (answer Back (view s.state t))
   granted_back t none = by_mark (has_mark (s.marks t)) refl
     where
       told_is : (b : Bool) → has_mark (s.marks t) ≡ b → answer Back (view s.state t) ≡ cond b Done NoMark
@@ -387,7 +388,7 @@ module _ (s : Store) (o : OverlayLaws s.state) (w : ViewLaws s.state)
       by_mark true e = subst (Next s (Do t Back)) (sym (told_is true e)) (gone_to_mark t none e)
       by_mark false e = subst (Next s (Do t Back)) (sym (told_is false e)) (no_mark t none e)
 
-  granted : (t : ℕ) (op : Op) → due s.state t op ≡ None → Next s (Do t op) (answer op (view s.state t))
+  granted : (t : ℕ) (op : Op) → due false s.state t op ≡ None → Next s (Do t op) (answer op (view s.state t))
   granted t Mark none = granted_mark t none
   granted t Back none = granted_back t none
   granted t op none = granted_plain t op none refl
@@ -417,18 +418,19 @@ module _ (s : Store) (o : OverlayLaws s.state) (w : ViewLaws s.state)
       same_marks_at u = ap (λ (ms : List ℕ). cond (t == u) ms (s.marks u))
           (marks_left_refused op why (length (s.notes u)) (s.marks u)) ∙ either_way (t == u) (s.marks u)
 
-  do_step : (t : ℕ) (op : Op) (reply : Reply) → MayDo s.state t op reply → Next s (Do t op) reply
-  do_step t op reply may = by_due (due s.state t op) refl may
+  do_step : (most_runs t : ℕ) (op : Op) (reply : Reply) → MayDo most_runs s.state t op reply → Next s (Do t op) reply
+  do_step most_runs t op reply may = by_due (is_full most_runs s.state.runs reply)
+      (due (is_full most_runs s.state.runs reply) s.state t op) refl may
     where
-      by_due : (o : Option Refusal) → due s.state t op ≡ o →
+      by_due : (full : Bool) (o : Option Refusal) → due full s.state t op ≡ o →
           MatchOption o ((reply ≡ answer op (view s.state t)) ⊎ (reply ≡ Refused NoMemory))
           (λ why. reply ≡ Refused why) →
           Next s (Do t op) reply
-      by_due None e m = ⊎_elim
-          (λ answered. subst (Next s (Do t op)) (sym answered) (granted t op e))
+      by_due full None e m = ⊎_elim
+          (λ answered. subst (Next s (Do t op)) (sym answered) (granted t op (none_without full s.state t op e)))
           (λ want. subst (Next s (Do t op)) (sym want) (refused t op NoMemory))
           m
-      by_due (Some why) e m = subst (Next s (Do t op)) (sym m) (refused t op why)
+      by_due full (Some why) e m = subst (Next s (Do t op)) (sym m) (refused t op why)
 
   -- a transaction ends, and the entries stay
   commits : (t : ℕ) → is_open s.state.active t ≡ true → NextAt s (Commits t) s.entries s.notes s.marks
@@ -465,53 +467,54 @@ module _ (s : Store) (o : OverlayLaws s.state) (w : ViewLaws s.state)
       was : (u : ℕ) → is_open (next s.state (Aborts t)).active u ≡ true → is_open s.state.active u ≡ true
       was u h = sym (st.aborts_others t u (other u h)).keeps.is_active ∙ h
 
-  step_on : (step : Step) (reply : Reply) → MayReply s step reply → Next s step reply
-  step_on Begin (Begun t) may = (
+  step_on : (most_runs : ℕ) (step : Step) (reply : Reply) → MayReply most_runs s step reply → Next s step reply
+  step_on most_runs Begin (Begun t) may = (
     go.begun t (not_begun s.state w st s.entries s.past s.notes s.marks k t may.0),
     begins s.state w st s.entries s.past s.notes s.marks k t may.0,
   )
-  step_on (Do t op) reply may = do_step t op reply may
-  step_on (Commit t) (Committed c) may = commits t may.0
-  step_on (Abort t) Aborted may = aborts t may
-  step_on (Merge limit) reply may = ⊎_elim
+  step_on most_runs (Do t op) reply may = do_step most_runs t op reply may
+  step_on most_runs (Commit t) (Committed c) may = commits t may.0
+  step_on most_runs (Abort t) Aborted may = aborts t may
+  step_on most_runs (Merge limit) reply may = ⊎_elim
       (λ right. maintained (entries_after s (Merge limit) reply)
       (merge_maintains s.entries s.wishes (holder s.state.active) limit reply rising right.1))
       (λ bad. subst (λ es. NextAt s Nothing es s.notes s.marks) (sym (merged_bad s limit reply bad.1)) (at, nothing))
       (by_limit limit reply _ may)
-  step_on (Clean range limit) (Cleaned n) may = maintained (entries_after s (Clean range limit) (Cleaned n))
+  step_on most_runs (Clean range limit) (Cleaned n) may = maintained (entries_after s (Clean range limit) (Cleaned n))
       (clean_maintains s.entries (holder s.state.active) range n rising)
-  step_on step reply may = (at, nothing)
+  step_on most_runs step reply may = (at, nothing)
 
 -- ---- whole traces
 
-runs_push : (trace : Trace) (s : State) (e : Event) → Runs s trace → May (after_run s trace) e.0 e.1 →
-    Runs s (trace ++ e ∷ [])
-runs_push [] s e r m = (m, tt)
-runs_push (x ∷ trace) s e r m = (r.0, runs_push trace (next s (effect x.0 x.1)) e r.1 m)
+runs_push : (most_runs : ℕ) (trace : Trace) (s : State) (e : Event) → Runs most_runs s trace →
+    May most_runs (after_run s trace) e.0 e.1 → Runs most_runs s (trace ++ e ∷ [])
+runs_push most_runs [] s e r m = (m, tt)
+runs_push most_runs (x ∷ trace) s e r m = (r.0, runs_push most_runs trace (next s (effect x.0 x.1)) e r.1 m)
 
-pub one_more : (trace : Trace) (s : Store) (e : Event) → Right trace s → MayReply s e.0 e.1 →
-    Right (trace ++ e ∷ []) (after_step s e.0 e.1)
-one_more trace s e r may =
-    let o = subst (λ (st : State). OverlayLaws st) (sym r.is) (overlay_laws trace r.runs) in
-    let w = subst (λ (st : State). ViewLaws st) (sym r.is) (view_laws trace r.runs) in
-    let out = step_on s o w r.at r.keeps e.0 e.1 may in
+pub one_more : (most_runs : ℕ) (trace : Trace) (s : Store) (e : Event) → Right most_runs trace s →
+    MayReply most_runs s e.0 e.1 → Right most_runs (trace ++ e ∷ []) (after_step s e.0 e.1)
+one_more most_runs trace s e r may =
+    let o = subst (λ (st : State). OverlayLaws st) (sym r.is) (overlay_laws most_runs trace r.runs) in
+    let w = subst (λ (st : State). ViewLaws st) (sym r.is) (view_laws most_runs trace r.runs) in
+    let out = step_on s o w r.at r.keeps most_runs e.0 e.1 may in
     record {
-      runs = runs_push trace start e r.runs (subst (λ (st : State). May st e.0 e.1) r.is
-          (may_of s r.at.has.rising r.keeps.below e.0 e.1 may));
+      runs = runs_push most_runs trace start e r.runs (subst (λ (st : State). May most_runs st e.0 e.1) r.is
+          (may_of most_runs s r.at.has.rising r.keeps.below e.0 e.1 may));
       is = ap (λ (st : State). next st (effect e.0 e.1)) r.is ∙ sym (after_run-push trace start e);
       at = out.0;
       keeps = out.1;
     }
 
-all_more : (before : Trace) (s : Store) (trace : Trace) → Right before s → Follows s trace →
-    Right (before ++ trace) (after_all s trace)
-all_more before s [] r f = subst (λ (x : Trace). Right x s) (sym (append-nil before)) r
-all_more before s (e ∷ trace) r f = subst (λ (x : Trace). Right x (after_all (after_step s e.0 e.1) trace))
-    (append_assoc before (e ∷ []) trace) (all_more (before ++ e ∷ []) (after_step s e.0 e.1) trace
-    (one_more before s e r f.0) f.1)
+all_more : (most_runs : ℕ) (before : Trace) (s : Store) (trace : Trace) → Right most_runs before s →
+    Follows most_runs s trace → Right most_runs (before ++ trace) (after_all s trace)
+all_more most_runs before s [] r f = subst (λ (x : Trace). Right most_runs x s) (sym (append-nil before)) r
+all_more most_runs before s (e ∷ trace) r f = subst
+    (λ (x : Trace). Right most_runs x (after_all (after_step s e.0 e.1) trace))
+    (append_assoc before (e ∷ []) trace) (all_more most_runs (before ++ e ∷ []) (after_step s e.0 e.1) trace
+    (one_more most_runs before s e r f.0) f.1)
 
-pub at_start : Right [] opened
-at_start = record {
+pub at_start : (most_runs : ℕ) → Right most_runs [] opened
+at_start most_runs = record {
   runs = tt;
   is = refl;
   at = follows.opened (λ t. []) empty_content;
@@ -525,5 +528,6 @@ at_start = record {
   };
 }
 
-pub right_at : (trace : Trace) → Follows opened trace → Right trace (after_all opened trace)
-right_at trace f = all_more [] opened trace at_start f
+pub right_at : (most_runs : ℕ) (trace : Trace) → Follows most_runs opened trace →
+    Right most_runs trace (after_all opened trace)
+right_at most_runs trace f = all_more most_runs [] opened trace (at_start most_runs) f

@@ -61,19 +61,20 @@ pub record Does (es : List Entry) (notes : ℕ → List Note) (t : ℕ) (op : Op
 
 pub record RepresentsNext (s : State) (es : List Entry) (notes : ℕ → List Note) (marks : ℕ → List ℕ) : Type 0 where
   -- the answer is that of the content, and, for Back, whether a mark stands
-  pub answered : (t : ℕ) (op : Op) → due s t op ≡ None → answer op (view s t) ≡ stored_answer op (marks t) (content es)
-  pub done : (t : ℕ) (op : Op) (es' : List Entry) (new : List Note) → due s t op ≡ None → is_plain op ≡ true →
+  pub answered : (t : ℕ) (op : Op) → due false s t op ≡ None →
+      answer op (view s t) ≡ stored_answer op (marks t) (content es)
+  pub done : (t : ℕ) (op : Op) (es' : List Entry) (new : List Note) → due false s t op ≡ None → is_plain op ≡ true →
       Does es notes t op es' new →
       Represents (next s (Answers t op (answer op (view s t)))) es'
       (λ u. cond (t == u) (new ++ notes u) (notes u)) marks
-  pub marked : (t : ℕ) → due s t Mark ≡ None → Represents (next s (Answers t Mark Done)) es notes
+  pub marked : (t : ℕ) → due false s t Mark ≡ None → Represents (next s (Answers t Mark Done)) es notes
       (λ u. cond (t == u) (length (notes u) ∷ marks u) (marks u))
   -- the notes since the newest mark are taken back, and the mark is gone
-  pub backed : (t : ℕ) (es' : List Entry) → due s t Back ≡ None → has_mark (marks t) ≡ true →
+  pub backed : (t : ℕ) (es' : List Entry) → due false s t Back ≡ None → has_mark (marks t) ≡ true →
       TakesBack (since_mark (marks t) (notes t)) es es' →
       Represents (next s (Answers t Back Done)) es' (λ u. cond (t == u) (until_mark (marks u) (notes u)) (notes u))
       (λ u. cond (t == u) (older (marks u)) (marks u))
-  pub stayed : (t : ℕ) → due s t Back ≡ None → has_mark (marks t) ≡ false →
+  pub stayed : (t : ℕ) → due false s t Back ≡ None → has_mark (marks t) ≡ false →
       Represents (next s (Answers t Back NoMark)) es notes marks
   pub begun : (t : ℕ) → is_open s.active t ≡ false → Represents (next s (Begins t)) es
       (λ u. cond (t == u) [] (notes u)) (λ u. cond (t == u) [] (marks u))

@@ -11,7 +11,8 @@ use Rattle.am_serial.specs.Trace.{Trace, effects, overlay}
 use Rattle.am_serial.specs.Machine.{is_open}
 use Rattle.am_serial.specs.Sound.{IsSound}
 use Rattle.am_effect.specs.Laws.{DescribesEach}
-use Rattle.am_effect.specs.Store.{Store, opened, after_step, MayReply, after_all, IsAsked}
+use Rattle.am_effect.specs.MergeAnswers.{MergeRight, CleanRight}
+use Rattle.am_effect.specs.Store.{Store, opened, after_step, holder, WithinLimit, after_all, IsAsked}
 use Rattle.am_sound.specs.Represents.{Represents}
 
 -- the store is right: its entries rise, each key is live in one place at most, the content is the overlay, and the
@@ -31,8 +32,10 @@ pub record IsReadyForStep (s : Store) : Type 0 where
 -- each merge and clean step of the trace is right: within its limit it meets what a merge or clean step may answer,
 -- else BadLimit
 abbrev pub MaintainedAt : Store → Step → Reply → Type 0
-MaintainedAt s (Merge limit) reply = MayReply s (Merge limit) reply
-MaintainedAt s (Clean range limit) reply = MayReply s (Clean range limit) reply
+MaintainedAt s (Merge limit) reply = WithinLimit limit reply
+    (MergeRight s.entries s.wishes (holder s.state.active) limit reply)
+MaintainedAt s (Clean range limit) reply = WithinLimit limit reply
+    (CleanRight s.entries (holder s.state.active) range limit reply)
 MaintainedAt s _ _ = Unit {0}
 
 abbrev pub IsMaintained : Store → Trace → Type 0
@@ -48,9 +51,9 @@ IsPlacedAtEachMoment trace =
 
 -- A trace is sound: serial, steady, right in its Busy answers and formed at each moment; at each moment each key is
 -- live in one place at most and the content is the overlay; nothing is merged that no read asked for and nothing twice,
--- and each merge and clean step is right. The store at its end is right.
-pub record IsSoundStore (trace : Trace) : Type 0 where
-  pub sound : IsSound trace
+-- and each merge and clean step is right. The store, which makes so many runs at most, is right at its end.
+pub record IsSoundStore (most_runs : ℕ) (trace : Trace) : Type 0 where
+  pub sound : IsSound most_runs trace
   pub placed : IsPlacedAtEachMoment trace
   pub asked : IsAsked trace
   pub maintained : IsMaintained opened trace

@@ -18,9 +18,10 @@ active_of notes marks x = record {
   marks = marks x.0;
 }
 
--- what a store keeps, by the store that the trace describes
-abbrev pub state_of : Store → StoreState
-state_of s = record {
+-- what a store keeps that makes so many runs at most, by the store that the trace describes
+abbrev pub state_of : ℕ → Store → StoreState
+state_of most_runs s = record {
+  most_runs = most_runs;
   entries = s.entries;
   wishes = s.wishes;
   begun = s.state.begun;
@@ -31,8 +32,8 @@ state_of s = record {
 
 -- the trace is one that the store may make, and the store is where it leaves it
 pub record IsStateOf (trace : Trace) (parts : StoreState) : Type 0 where
-  pub follows : Follows opened trace
-  pub here : parts ≡ state_of (after_all opened trace)
+  pub follows : Follows parts.most_runs opened trace
+  pub here : parts ≡ state_of parts.most_runs (after_all opened trace)
 
 -- the steps with their replies
 abbrev pub events : List Step → List Reply → Trace

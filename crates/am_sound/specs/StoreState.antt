@@ -1,7 +1,7 @@
 -- What a store keeps, and what a step may do to it, without the trace.
-use Rattle.std.specs.Prelude.{◌≡◌, ◌⊎◌, ℕ, ◌+◌, ◌<◌, ◌≤◌, length, List, [], ◌∷◌, ◌++◌, Bool, true}
-use Rattle.std.specs.Prelude.{false, Option, None, MatchOption}
-use Rattle.am_record.specs.Limits.{max_active, max_begun}
+use Rattle.std.specs.Prelude.{◌≡◌, ◌⊎◌, ℕ, ◌+◌, ◌<◌, ◌≤◌, nat_le, length, List, [], ◌∷◌, ◌++◌, Bool, true}
+use Rattle.std.specs.Prelude.{false, ◌||◌, Option, None, MatchOption}
+use Rattle.am_record.specs.Limits.{max_active, max_begun, max_runs}
 use Rattle.am_record.specs.OrderedKey.{OrderedKey}
 use Rattle.am_record.specs.Interval.{Interval}
 use Rattle.am_record.specs.Asks.{lock_of, with_asked}
@@ -19,6 +19,7 @@ use Rattle.am_record.specs.declared.step.Reply.{Reply}
 use Rattle.am_record.specs.declared.step.Reply.TheVariants.{Begun, Committed, Aborted, Refused}
 use Rattle.am_index.specs.Entries.{find, IsRising}
 use Rattle.am_index.specs.Content.{content, OnePlace}
+use Rattle.am_parts.specs.Catalogs.{runs_in}
 use Rattle.am_undo.specs.declared.note.Note.{Note}
 use Rattle.am_undo.specs.Notes.{CanTakeBack}
 use Rattle.am_record.specs.Marks.{since_mark}
@@ -39,6 +40,8 @@ pub record Active : Type 0 where
   pub marks : List ℕ
 
 pub record StoreState : Type 0 where
+  -- how many runs may be made in all
+  pub most_runs : ℕ
   pub entries : List Entry
   pub wishes : List Interval
   pub begun : ℕ
@@ -66,11 +69,15 @@ holder_in xs = holder_among (λ (x : Active). x.number) (λ (x : Active). x.lock
 abbrev pub blocker_in : List Active → ℕ → Option Lock → Option ℕ
 blocker_in xs = blocker_among (λ (x : Active). x.number) (λ (x : Active). x.locks) xs
 
+-- whether no further run may be made: as many were made as may be, or 65,535 have entries
+abbrev pub has_all_runs : StoreState → Bool
+has_all_runs p = nat_le p.most_runs p.runs || nat_le max_runs (runs_in p.entries)
+
 -- the refusal that is due
 abbrev pub refusal_in : StoreState → ℕ → Op → Option Refusal
 refusal_in p t op =
     or_else
-    (refusal_before_lock (is_in p.active t) (in_table p.active t).ops p.runs op)
+    (refusal_before_lock (is_in p.active t) (in_table p.active t).ops (has_all_runs p) op)
     (lock_refusal (blocker_in p.active t (lock_of op)) (is_one_too_many (in_table p.active t).locks (lock_of op)))
 
 -- whether memory may be wanting: going back takes none
@@ -140,8 +147,17 @@ state_after p (Clean range limit) reply = record p {
 }
 state_after p _ _ = p
 
-abbrev pub empty_state : StoreState
-empty_state = record { entries = []; wishes = []; begun = 0; commits = 0; runs = 0; active = [] }
+-- an empty store that makes so many runs at most
+abbrev pub empty_state : ℕ → StoreState
+empty_state most_runs = record {
+  most_runs = most_runs;
+  entries = [];
+  wishes = [];
+  begun = 0;
+  commits = 0;
+  runs = 0;
+  active = [];
+}
 
 -- what a step may rest on: the entries rise, no key is live in two partitions, nothing stands above the last run, and
 -- the notes of each active transaction can be taken back, all of them and those since its newest mark

@@ -33,18 +33,20 @@ pub fn entries_represent()
 /// Every trace that the store of traces may make is sound at each moment, and these are the sound
 /// traces whose merge and clean steps are right.
 pub fn store_is_sound()
-    ensures sound { (before rest : Trace) → Follows opened (before ++ rest) → IsSoundStore before }
-    ensures exact { (trace : Trace) → (IsSound trace × IsMaintained opened trace) ↔ Follows opened trace }
+    ensures sound { (most_runs : ℕ) (before rest : Trace) → Follows most_runs opened (before ++ rest) →
+        IsSoundStore most_runs before }
+    ensures exact { (most_runs : ℕ) (trace : Trace) →
+        (IsSound most_runs trace × IsMaintained opened trace) ↔ Follows most_runs opened trace }
 {}
 
 /// A step that is right of the store's state is right at its trace, and a trace that leads to a state is sound.
 pub fn steps_lift()
-    ensures opened { IsStateOf [] empty_state }
+    ensures opened { (most_runs : ℕ) → IsStateOf [] (empty_state most_runs) }
     ensures lift { (trace : Trace) (p : StoreState) (step : Step) (reply : Reply) → IsStateOf trace p →
         MayAnswer p step reply →
         IsStateOf (trace ++ (step, reply) ∷ []) (state_after p step reply) }
     ensures fit { (trace : Trace) (p : StoreState) → IsStateOf trace p → IsFit p }
-    ensures sound { (trace : Trace) (p : StoreState) → IsStateOf trace p → IsSoundStore trace }
+    ensures sound { (trace : Trace) (p : StoreState) → IsStateOf trace p → IsSoundStore p.most_runs trace }
 {}
 
 /// What a table of locks answers of the active transactions is what a step owes.

@@ -2,15 +2,25 @@
 use Rattle.std.proofs.Common.{◌≡◌, ◌≢◌, ℕ, List, [], ◌∷◌, ◌++◌, append_assoc, append-nil, ap, sym, ◌∙◌, refl, length}
 use Rattle.std.proofs.Common.{take, arith, true, false, Option, subst}
 use Rattle.std.proofs.lemmas.List.{length-take}
-use Rattle.am_stream.specs.Lines.{line_of, lines_of, HasNoLf, TookLine, TookPart}
-use Rattle.am_stream.specs.SourceReads.{TookAhead, IsAtEnd}
+use Rattle.am_stream.specs.Lines.{line_of, lines_of, IsReading, TookLine, TookPart}
+use Rattle.am_stream.specs.SourceReads.{Took, TookAhead, IsAtEnd}
 use Rattle.am_stream.proofs.Streams.{took_then}
 use Rattle.am_stream.proofs.CutLines.{line_of-front, take-push-front, lines_of-ended, lines_of-open, no_lf-push}
 
--- bytes of one line were taken, and its front is kept
-abbrev pub IsReading : {S : Type 0} → (S → List ℕ → Type 0) → List ℕ → S → List ℕ → List ℕ → S → Type 0
-IsReading comes before old line waiting new = (taken : List ℕ) × HasNoLf taken × (line ≡ take 4097 taken) ×
-    TookAhead comes before old taken waiting new
+-- none of them was taken yet
+pub reading_none_yet : {S : Type 0} (comes : S → List ℕ → Type 0) (p : List ℕ) (a : S) (line : List ℕ) → line ≡ [] →
+    IsReading comes p a line p a
+reading_none_yet comes p a line e = ([], tt, e, λ rest h. h)
+
+-- the source was awaited
+pub reading_on : {S : Type 0} (comes : S → List ℕ → Type 0) (p q : List ℕ) (a b d : S) (line : List ℕ) →
+    IsReading comes p a line q b → Took comes b [] d → IsReading comes p a line q d
+reading_on comes p q a b d line h f = (
+  h.0,
+  h.1,
+  h.2,
+  λ rest ahead. h.3 rest (ahead.0, f ahead.0 ahead.1, ahead.2),
+)
 
 pub reading_more : {S : Type 0} (comes : S → List ℕ → Type 0) (p q r : List ℕ) (a b d : S) (line new : List ℕ) (c : ℕ) →
     IsReading comes p a line q b → TookAhead comes q b (c ∷ []) r d → (c ≡ 10 → ⊥) → new ≡ take 4097 (line ++ c ∷ []) →

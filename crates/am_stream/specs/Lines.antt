@@ -1,6 +1,6 @@
 -- Bytes, cut into lines.
-use Rattle.std.specs.Prelude.{◌≡◌, ◌≢◌, ℕ, List, [], ◌∷◌, ◌++◌, length, map, Bool, true, false, ◌==◌, nat_lt, Option}
-use Rattle.std.specs.Prelude.{Some, None, MatchBool, cond}
+use Rattle.std.specs.Prelude.{◌≡◌, ◌≢◌, ℕ, List, [], ◌∷◌, ◌++◌, length, take, map, Bool, true, false, ◌==◌, nat_lt}
+use Rattle.std.specs.Prelude.{Option, Some, None, MatchBool, cond}
 use Rattle.am_stream.specs.SourceReads.{TookAhead, IsAtEnd}
 
 -- a byte goes onto the front of the first line
@@ -51,3 +51,8 @@ TookLine comes before old line ended waiting new = (taken : List ℕ) × TookAhe
 -- Bytes of a line were taken that isn't ended yet.
 abbrev pub TookPart : {S : Type 0} → (S → List ℕ → Type 0) → List ℕ → S → List ℕ → S → Type 0
 TookPart comes before old waiting new = (taken : List ℕ) × HasNoLf taken × TookAhead comes before old taken waiting new
+
+-- Bytes of a line were taken that isn't ended yet, and its front is kept.
+abbrev pub IsReading : {S : Type 0} → (S → List ℕ → Type 0) → List ℕ → S → List ℕ → List ℕ → S → Type 0
+IsReading comes before old line waiting new = (taken : List ℕ) × HasNoLf taken × (line ≡ take 4097 taken) ×
+    TookAhead comes before old taken waiting new

@@ -2,11 +2,11 @@
 
 ghost use Rattle.std.specs.Prelude.{◌≡◌, ℕ, ◌+◌, ◌-◌, ◌^◌, ◌<◌, ◌≤◌, List, [], ◌∷◌, ◌++◌, length, take, true, false};
 ghost use Rattle.std.specs.Prelude.{drop, is_some, OnOk, OnErr, IfOk, IfSome, IfNone, vec_len, option_to_list};
-ghost use Rattle.am_stream.specs.SourceReads.{TookAhead, IsAtEnd};
-ghost use Rattle.am_stream.specs.Lines.{HasNoLf, has_lf, CutsLine, TookLine, TookPart};
-ghost use Rattle.am_stream.specs.LineAnswers.{seen};
+ghost use Rattle.am_stream.specs.SourceReads.{Took, TookAhead, IsAtEnd};
+ghost use Rattle.am_stream.specs.Lines.{HasNoLf, has_lf, CutsLine, IsReading, TookPart};
+ghost use Rattle.am_stream.specs.LineAnswers.{seen, is_late, CameOf};
 
-use crate::line::{FoundLine, LineBuffer};
+use crate::line::{Coming, FoundLine, LineBuffer};
 use crate::peer_source::AnsweredSource;
 use am_sink::{Failed, Sink};
 use std::alloc::{AllocError, Global};
@@ -98,6 +98,11 @@ impl Input {
         &self.buffer[self.start..self.end]
     }
 
+    // Whether no byte waits.
+    fn is_empty(&self) -> bool {
+        self.start == self.end
+    }
+
     /// Whether a whole line waits, its LF with it.
     pub fn has_line(&self) -> bool
         ensures { result ≡ has_lf self.now }
@@ -182,37 +187,60 @@ impl Input {
     }
 }
 
-/// Reads the next line, however the source cuts its bytes. None means that there is no further line. Its bytes stand in
-/// `line`; of a line that is too long the rest up to the LF is passed over. After a failure what was read of a line
-/// that isn't ended is lost. The source is asked with nothing unsent in the sink.
+// Returns once there is something to read, or nothing more comes, or the source fails. Whether that was so in time,
+// where the wait is timed.
+fn await_bytes<K: Sink, S: AnsweredSource<K>>(
+    input: &Input,
+    source: &mut S,
+    sink: &K,
+    is_timed: bool,
+) -> bool
+    requires sent { K.pending sink.now ≡ false }
+    ensures kept { Took S.comes source.old [] source.new }
+    ensures same { S.failures source.new ≡ S.failures source.old }
+    ensures timed { result ≡ false → is_timed ≡ true }
+{
+    if !is_timed || !input.is_empty() {
+        return true;
+    }
+    source.await_more_answered(sink)
+}
+
+/// Reads on in a line of which some bytes may stand in `line`, however the source cuts its bytes. Its bytes stand there
+/// then; of a line that is too long the rest up to the LF is passed over. Where the wait is timed it ends once the
+/// source says that nothing came in time, and one may read on. After a failure what was read of a line that isn't ended
+/// is lost. The source is asked with nothing unsent in the sink.
 pub fn read_line<R: Wait, K: Sink, S: AnsweredSource<K>>(
     rt: &R,
     input: &mut Input,
     source: &mut S,
     sink: &K,
     line: &mut LineBuffer,
-) -> Result<Option<FoundLine>, Failed>
+    is_timed: bool,
+) -> Result<Coming, Failed>
     requires countable { S.failures source.old < 2 ^ 63 }
     requires sent { K.pending sink.now ≡ false }
-    ensures line { IfOk result (λ found. IfSome found (λ f.
-        TookLine S.comes input.old source.old (seen f.kind line.new) f.is_ended input.new source.new)) }
-    ensures end { IfOk result (λ found. IfNone found
-        (TookAhead S.comes input.old source.old [] input.new source.new × IsAtEnd S.comes input.new source.new)) }
+    ensures came { (before : List ℕ) (first : S) → IsReading S.comes before first line.old input.old source.old →
+        IfOk result (λ coming. CameOf S.comes before first coming line.new input.new source.new) }
+    ensures part { (before : List ℕ) (first : S) → IsReading S.comes before first line.old input.old source.old →
+        OnErr result (TookPart S.comes before first input.new source.new) }
+    ensures timed { IfOk result (λ coming. is_late coming ≡ true → is_timed ≡ true) }
     ensures ok { OnOk result (S.failures source.new ≡ S.failures source.old) }
     ensures failed { OnErr result (S.failures source.new ≡ S.failures source.old + 1) }
-    ensures part { OnErr result (TookPart S.comes input.old source.old input.new source.new) }
     ensures empty { OnErr result (input.new ≡ []) }
 {
-    line.clear();
     'bytes: for _ in rt.forever() {
+        if !await_bytes(input, source, sink, is_timed) {
+            return Ok(Coming::Late);
+        }
         let next = input.next(source, sink)?;
         match next {
             None => {
                 if line.is_empty() {
-                    return Ok(None);
+                    return Ok(Coming::End);
                 }
                 let kind = line.finish();
-                return Ok(Some(FoundLine {
+                return Ok(Coming::Line(FoundLine {
                     kind,
                     is_ended: false,
                 }));
@@ -220,7 +248,7 @@ pub fn read_line<R: Wait, K: Sink, S: AnsweredSource<K>>(
             Some(byte) => {
                 if byte == b'\n' {
                     let kind = line.finish();
-                    return Ok(Some(FoundLine {
+                    return Ok(Coming::Line(FoundLine {
                         kind,
                         is_ended: true,
                     }));

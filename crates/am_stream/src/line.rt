@@ -74,7 +74,8 @@ impl LineBuffer {
         self.len() == 0
     }
 
-    pub(crate) fn clear(&mut self)
+    /// No byte is in it.
+    pub fn clear(&mut self)
         ensures { self.new ≡ [] }
     {
         self.len = 0;
@@ -145,4 +146,15 @@ pub struct FoundLine {
     pub kind: LineKind,
     /// Whether an LF ended it. If not, the end of the input did: it was the last line, and one must not read again.
     pub is_ended: bool,
+}
+
+/// What came of waiting for a line.
+#[derive(Clone, Copy, PartialEq, Eq)]
+pub enum Coming {
+    /// A line, whose bytes stand in the buffer.
+    Line(FoundLine),
+    /// The end: there is no further line.
+    End,
+    /// Nothing for too long. What came of a line so far stands in the buffer.
+    Late,
 }

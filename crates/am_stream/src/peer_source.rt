@@ -25,6 +25,12 @@ pub trait AnsweredSource<K: Sink> {
         ensures ok { OnOk result (failures self.new ≡ failures self.old) }
         ensures failed { OnErr result (failures self.new ≡ failures self.old + 1) }
         ensures kept { OnErr result (Took comes self.old [] self.new) };
+
+    /// As [`Source::await_more`], with nothing unsent.
+    fn await_more_answered(&mut self, sink: &K) -> bool
+        requires sent { K.pending sink.now ≡ false }
+        ensures kept { Took comes self.old [] self.new }
+        ensures same { failures self.new ≡ failures self.old };
 }
 
 impl<K: Sink, S: Source> AnsweredSource<K> for S {
@@ -34,5 +40,9 @@ impl<K: Sink, S: Source> AnsweredSource<K> for S {
 
     fn take_answered(&mut self, into: &mut [u8], _sink: &K) -> Result<usize, Failed> {
         self.take(into)
+    }
+
+    fn await_more_answered(&mut self, _sink: &K) -> bool {
+        self.await_more()
     }
 }

@@ -38,6 +38,10 @@ impl<R: Read> Source for Reading<R> {
     fn take(&mut self, into: &mut [u8]) -> Result<usize, Failed> {
         or_failed(self.reader.read(into), &mut self.failures)
     }
+
+    fn await_more(&mut self) -> bool {
+        true
+    }
 }
 
 /// What comes from a source over a reader is what the reader has left, and what a sink over a writer holds is what the

@@ -25,6 +25,12 @@ pub trait Source {
         ensures ok { OnOk result (failures self.new ≡ failures self.old) }
         ensures failed { OnErr result (failures self.new ≡ failures self.old + 1) }
         ensures kept { OnErr result (Took comes self.old [] self.new) };
+
+    /// Returns once there is something to take, or the source has ended or fails. Whether that was so in time: some
+    /// sources know how long one waits for them. Nothing is taken.
+    fn await_more(&mut self) -> bool
+        ensures kept { Took comes self.old [] self.new }
+        ensures same { failures self.new ≡ failures self.old };
 }
 
 /// A source over memory, which gives its bytes in pieces of given sizes, and can be made to fail once.
@@ -111,5 +117,9 @@ impl<'a> Source for PieceSource<'a> {
         into[..n].copy_from_slice(front);
         self.bytes = back;
         Ok(n)
+    }
+
+    fn await_more(&mut self) -> bool {
+        true
     }
 }

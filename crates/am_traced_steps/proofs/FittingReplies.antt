@@ -11,7 +11,7 @@ use Rattle.am_record.specs.declared.step.Reply.TheVariants.{Begun, Committed, Ab
 use Rattle.am_record.specs.Asks.{lock_of}
 use Rattle.am_serial.specs.Trace.{Effect}
 use Rattle.am_record.specs.Refusals.{is_one_too_many}
-use Rattle.am_serial.specs.Machine.{state_at, due_early, locks_in}
+use Rattle.am_serial.specs.Machine.{state_at, is_full, due_early, locks_in}
 use Rattle.am_serial.specs.Sound.{IsAnswerOf, IsBusy, FormedDo, FormedAt}
 use Rattle.am_traced_steps.specs.Changes.{IsReplyTo}
 
@@ -50,13 +50,15 @@ do_fits st None false op r f =
     y)
     f
 
-pub fits_formed : (es : List Effect) (st : Step) (r : Reply) → FormedAt es st r → IsReplyTo st r
-fits_formed es (Do t op) r f = do_fits (Do t op) (due_early (state_at es) t op)
+pub fits_formed : (most_runs : ℕ) (es : List Effect) (st : Step) (r : Reply) → FormedAt most_runs es st r →
+    IsReplyTo st r
+fits_formed most_runs es (Do t op) r f = do_fits (Do t op)
+    (due_early (is_full most_runs (state_at es).runs r) (state_at es) t op)
     (is_one_too_many (locks_in (state_at es).active t) (lock_of op)) op r f
-fits_formed es Begin (Begun t') f = refl
-fits_formed es (Commit t) (Committed c') f = (t, refl)
-fits_formed es (Abort t) Aborted f = (t, refl)
-fits_formed es step (Begun t') f = absurd f
-fits_formed es step (Committed c') f = absurd f
-fits_formed es step Aborted f = absurd f
-fits_formed es step reply f = tt
+fits_formed most_runs es Begin (Begun t') f = refl
+fits_formed most_runs es (Commit t) (Committed c') f = (t, refl)
+fits_formed most_runs es (Abort t) Aborted f = (t, refl)
+fits_formed most_runs es step (Begun t') f = absurd f
+fits_formed most_runs es step (Committed c') f = absurd f
+fits_formed most_runs es step Aborted f = absurd f
+fits_formed most_runs es step reply f = tt

@@ -1,5 +1,6 @@
 -- No step of the store is answered that a seat is full.
-use Rattle.std.proofs.Common.{◌≡◌, ◌∷◌, ◌++◌, [], List, Bool, true, false, cond, Option, Some, None, subst, ⊎_elim, ◌⊎◌}
+use Rattle.std.proofs.Common.{◌≡◌, ◌∷◌, ◌++◌, [], ℕ, List, Bool, true, false, cond, Option, Some, None, subst, ⊎_elim}
+use Rattle.std.proofs.Common.{◌⊎◌}
 use Rattle.am_record.specs.declared.step.Op.{Op}
 use Rattle.am_record.specs.declared.step.Op.TheVariants.{Get}
 use Rattle.am_record.specs.declared.step.Step.{Step}
@@ -12,7 +13,7 @@ use Rattle.am_record.specs.declared.step.Reply.TheVariants.{Refused}
 use Rattle.am_record.specs.Asks.{lock_of}
 use Rattle.am_record.specs.Refusals.{is_one_too_many}
 use Rattle.am_serial.specs.Trace.{Trace, Effect}
-use Rattle.am_serial.specs.Machine.{state_at, due_early, locks_in}
+use Rattle.am_serial.specs.Machine.{state_at, is_full, due_early, locks_in}
 use Rattle.am_serial.specs.Sound.{IsAnswerOf, IsBusy, FormedDo, FormedAt}
 use Rattle.am_sound.specs.StoreState.{StoreState}
 use Rattle.am_core.specs.StoreSteps.{IsSoundAt}
@@ -46,13 +47,14 @@ not_done None false op never f =
     y)
     f
 
-not_formed : (es : List Effect) (st : Step) → FormedAt es st (Refused SeatFull) → ⊥
-not_formed es (Do t op) f = not_done (due_early (state_at es) t op)
+not_formed : (most_runs : ℕ) (es : List Effect) (st : Step) → FormedAt most_runs es st (Refused SeatFull) → ⊥
+not_formed most_runs es (Do t op) f = not_done
+    (due_early (is_full most_runs (state_at es).runs (Refused SeatFull)) (state_at es) t op)
     (is_one_too_many (locks_in (state_at es).active t) (lock_of op)) op (not_due _ _ _ _ _) f
-not_formed es step f = f
+not_formed most_runs es step f = f
 
 pub never_full_by : (h : Trace) (st : Step) (r : Reply) (p : StoreState) → IsSoundAt (h ++ (st, r) ∷ []) p →
     r ≡ Refused SeatFull → ⊥
 never_full_by h st r p stands is =
-    let last = last_event [] h st r stands.sound.sound.formed in
-    not_formed last.0 st (subst (λ (q : Reply). FormedAt last.0 st q) is last.1)
+    let last = last_event p.most_runs [] h st r stands.sound.sound.formed in
+    not_formed p.most_runs last.0 st (subst (λ (q : Reply). FormedAt p.most_runs last.0 st q) is last.1)

@@ -19,7 +19,7 @@ use Rattle.am_undo.specs.declared.note.Note.{Note}
 use Rattle.am_serial.specs.Trace.{Trace, Effect}
 use Rattle.am_serial.specs.Trace as serial
 use Rattle.am_record.specs.Refusals.{is_bounded, is_one_too_many}
-use Rattle.am_serial.specs.Machine.{state_at, due_early, locks_in}
+use Rattle.am_serial.specs.Machine.{state_at, is_full, due_early, locks_in}
 use Rattle.am_serial.specs.Sound.{IsAnswerOf, IsBusy, FormedDo, FormedAt, EachEvent}
 use Rattle.am_record.specs.Asks.{lock_of}
 use Rattle.am_sound.specs.StoreState.{Active, StoreState, MayAnswer, IsFit, state_after, with_op, without_tx, is_in}
@@ -182,8 +182,9 @@ none_of_first : (b : Bool) (why : Refusal) (rest : Option Refusal) → cond b (S
 none_of_first true why rest e = absurd (cc)
 none_of_first false why rest e = (refl, e)
 
-bounded_early : (es : List Effect) (t : ℕ) (op : Op) → due_early (state_at es) t op ≡ None → is_bounded op ≡ true
-bounded_early es t op e =
+bounded_early : (full : Bool) (es : List Effect) (t : ℕ) (op : Op) → due_early full (state_at es) t op ≡ None →
+    is_bounded op ≡ true
+bounded_early full es t op e =
     let active = none_of_first _ NoSuchTx _ e in
     let few = none_of_first _ TooManyOps _ active.1 in
     let rising = none_of_first _ NotRising _ few.1 in
@@ -216,12 +217,15 @@ rows_formed None false t op r f b w =
     (λ (a : IsAnswerOf op r). rows_answered t op r a (b refl) w) y)
     f
 
-rows_within : (es : List Effect) (st : Step) (r : Reply) → FormedAt es st r → IsWithin st r → count_rows r ≤ room_of st
-rows_within es (Do t op) r f w = rows_formed (due_early (state_at es) t op)
-    (is_one_too_many (locks_in (state_at es).active t) (lock_of op)) t op r f (bounded_early es t op) w
-rows_within es Begin (Rows rows') f w = absurd f
-rows_within es step (Rows rows') f w = absurd f
-rows_within es step reply f w = omega arith
+rows_within : (most_runs : ℕ) (es : List Effect) (st : Step) (r : Reply) → FormedAt most_runs es st r →
+    IsWithin st r → count_rows r ≤ room_of st
+rows_within most_runs es (Do t op) r f w = rows_formed
+    (due_early (is_full most_runs (state_at es).runs r) (state_at es) t op)
+    (is_one_too_many (locks_in (state_at es).active t) (lock_of op)) t op r f
+    (bounded_early (is_full most_runs (state_at es).runs r) es t op) w
+rows_within most_runs es Begin (Rows rows') f w = absurd f
+rows_within most_runs es step (Rows rows') f w = absurd f
+rows_within most_runs es step reply f w = omega arith
 
 moves_answered : (op : Op) (r : Reply) → IsAnswerOf op r → moves_in r ≤ 64
 moves_answered (Get k) (Moved n run) a = absurd a
@@ -242,28 +246,30 @@ moves_formed None false op r f =
     (λ (a : IsAnswerOf op r). moves_answered op r a) y)
     f
 
-moves_within : (es : List Effect) (st : Step) (r : Reply) → FormedAt es st r → IsWithin st r → moves_in r ≤ 64
-moves_within es (Do t op) r f w = moves_formed (due_early (state_at es) t op)
+moves_within : (most_runs : ℕ) (es : List Effect) (st : Step) (r : Reply) → FormedAt most_runs es st r →
+    IsWithin st r → moves_in r ≤ 64
+moves_within most_runs es (Do t op) r f w = moves_formed
+    (due_early (is_full most_runs (state_at es).runs r) (state_at es) t op)
     (is_one_too_many (locks_in (state_at es).active t) (lock_of op)) op r f
-moves_within es (Merge limit) (Moved n' run') f w = w
-moves_within es step (Moved n' run') f w = absurd f
-moves_within es step reply f w = omega arith
+moves_within most_runs es (Merge limit) (Moved n' run') f w = w
+moves_within most_runs es step (Moved n' run') f w = absurd f
+moves_within most_runs es step reply f w = omega arith
 
-pub last_event : (es : List Effect) (h : Trace) (st : Step) (r : Reply) → EachEvent FormedAt es (h ++ (st, r) ∷ []) →
-    (fs : List Effect) × FormedAt fs st r
-last_event es [] st r each = (es, each.0)
-last_event es (e ∷ h) st r each = last_event (es ++ serial.effect e.0 e.1 ∷ []) h st r each.1
+pub last_event : (most_runs : ℕ) (es : List Effect) (h : Trace) (st : Step) (r : Reply) →
+    EachEvent (FormedAt most_runs) es (h ++ (st, r) ∷ []) → (fs : List Effect) × FormedAt most_runs fs st r
+last_event most_runs es [] st r each = (es, each.0)
+last_event most_runs es (e ∷ h) st r each = last_event most_runs (es ++ serial.effect e.0 e.1 ∷ []) h st r each.1
 
 -- ---- a step of the store
 
 pub is_bounded_by : (h : Trace) (st : Step) (r : Reply) (p : StoreState) → IsSoundAt (h ++ (st, r) ∷ []) p →
     IsWithin st r → IsBoundedReply st r
 is_bounded_by h st r p stands within =
-    let last = last_event [] h st r stands.sound.sound.formed in
+    let last = last_event p.most_runs [] h st r stands.sound.sound.formed in
     record {
-      fits = fits_formed last.0 st r last.1;
-      rows = rows_within last.0 st r last.1 within;
-      moves = moves_within last.0 st r last.1 within;
+      fits = fits_formed p.most_runs last.0 st r last.1;
+      rows = rows_within p.most_runs last.0 st r last.1 within;
+      moves = moves_within p.most_runs last.0 st r last.1 within;
     }
 
 pub goes : (h : Trace) (p p' : StoreState) (st : Step) (r : Reply) → HasTrace h p → IsFit p → MayAnswer p st r →
@@ -271,6 +277,7 @@ pub goes : (h : Trace) (p p' : StoreState) (st : Step) (r : Reply) → HasTrace 
     TakesStep h st r p'
 goes h p p' st r has fit may step same on = record {
   here = record {
+    most = on.most ∙ has.most;
     stands = on.on h has.stands.at;
     active = ap numbers_active step ∙ numbers_after p st r ∙ ap (λ ts. numbers_with ts (change st r)) has.active ∙
         sym (active_from-snoc [] h (st, r));
@@ -279,5 +286,9 @@ goes h p p' st r has fit may step same on = record {
   answers = subst (λ (ts : List ℕ). MayFollow ts st r) has.active (answers_of p st r fit may);
 }
 
-pub opens : (p : StoreState) → p.active ≡ [] → IsSoundAt [] p → HasTrace [] p
-opens p none stands = record { stands = stands; active = ap (λ l. map (λ (x : Active). x.number) l) none }
+pub opens : (p : StoreState) → p.most_runs ≡ 65535 → p.active ≡ [] → IsSoundAt [] p → HasTrace [] p
+opens p most none stands = record {
+  most = most;
+  stands = stands;
+  active = ap (λ l. map (λ (x : Active). x.number) l) none;
+}

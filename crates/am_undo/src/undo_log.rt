@@ -140,7 +140,7 @@ impl UndoLog {
     {
         let Some(mark) = self.marks.pop() else {
             // Asked here, each value is known to have its room.
-            prove!(parts.runs() <= 65535);
+            prove!(parts.runs() <= 4294967294);
             return false;
         };
         take_back_above(&mut self.notes, mark, parts);
@@ -163,7 +163,7 @@ fn take_back_above<I: PartIndex + Drop>(
     ensures capacity { notes.new.capacity ≡ notes.old.capacity }
 {
     // Asked here, each value is known to have its room.
-    prove!(parts.runs() <= 65535);
+    prove!(parts.runs() <= 4294967294);
     while mark < notes.len() {
         let Some(note) = notes.pop() else {
             unreachable!()

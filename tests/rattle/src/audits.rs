@@ -1,14 +1,14 @@
 //! Worked traces, as they are stored: a text holds nothing that a test would have to give back.
 
 use am_audit::{Fault, FaultKind, check};
-use am_record::{Key, NoMemory, Op, Refusal, Reply, Step};
+use am_record::{Key, MAX_RUNS, NoMemory, Op, Refusal, Reply, Step};
 use am_trace_read::read_trace;
 use std::alloc::Global;
 use std::process::Abort;
 
 fn expect(rt: &impl Abort, alloc: Global, text: &[u8], verdict: Result<u64, Fault>) {
     let trace = read_trace(alloc, text).expect(rt, "the text of a trace");
-    assert!(rt; check(alloc, &trace) == verdict);
+    assert!(rt; check(alloc, MAX_RUNS, &trace) == verdict);
 }
 
 fn wrong(line: u64, kind: FaultKind) -> Result<u64, Fault> {
@@ -236,7 +236,7 @@ fn expect_at_one_lock_more(
     tell(rt, &mut trace, Step::Do(2, delete), Reply::Missing);
     let get = Op::Get(Key::of_u64(key));
     tell(rt, &mut trace, Step::Do(1, get), reply);
-    assert!(rt; check(alloc, &trace) == verdict);
+    assert!(rt; check(alloc, MAX_RUNS, &trace) == verdict);
 }
 
 #[test]

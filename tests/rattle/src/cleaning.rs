@@ -3,7 +3,7 @@
 use crate::workers::{Always, answer_of, begin, commit};
 use am_audit::check;
 use am_latch::{Blank, Latch, LatchName, Seat, close};
-use am_record::{HashKey, Key, Op, Range, Records, Reply, Step, Value};
+use am_record::{HashKey, Key, MAX_RUNS, Op, Range, Records, Reply, Step, Value};
 use am_turns::Upkeep;
 use am_workers::run_workers;
 use std::alloc::Global;
@@ -143,7 +143,7 @@ fn by_two_workers<L: LatchName + Send + Sync, R: Threads + Wait + Abort + Sync>(
     let Ok(closed) = close(latch, all, taker) else {
         panic!(rt; "all seats are there")
     };
-    assert!(rt; check(alloc, &closed.trace) == Ok(52));
+    assert!(rt; check(alloc, MAX_RUNS, &closed.trace) == Ok(52));
     Ok(())
 }
 

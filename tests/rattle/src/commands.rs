@@ -16,6 +16,7 @@ const DEFAULTS: Listening<'static> = Listening {
     stays: false,
     grace: None,
     idle: None,
+    lapse: 0,
     socket: None,
     is_logged: false,
 };
@@ -30,6 +31,7 @@ const MOST: Listening<'static> = Listening {
     stays: false,
     grace: None,
     idle: None,
+    lapse: 0,
     socket: None,
     is_logged: false,
 };
@@ -39,12 +41,19 @@ const STAYING: Listening<'static> = Listening {
     stays: true,
     grace: Some(3600),
     idle: Some(43_200),
+    lapse: 60,
     socket: Some("s"),
     is_logged: true,
     ..DEFAULTS
 };
 
-const ASKED: [Asked<'static>; 27] = [
+const NEVER_LAPSING: Listening<'static> = Listening {
+    sessions: 64,
+    stays: true,
+    ..DEFAULTS
+};
+
+const ASKED: [Asked<'static>; 31] = [
     (&["amserve", "alone"], Ok(Options::Alone { auto: 16 })),
     (
         &["amserve", "alone", "--auto", "0"],
@@ -98,6 +107,52 @@ const ASKED: [Asked<'static>; 27] = [
         Err(2),
     ),
     (&["amserve", "listen", "--port", "0", "--idle", "1"], Err(2)),
+    (
+        &[
+            "amserve",
+            "listen",
+            "--port",
+            "0",
+            "--stay",
+            "--idle-transaction",
+            "0",
+        ],
+        Ok(Options::Listen(NEVER_LAPSING)),
+    ),
+    (
+        &[
+            "amserve",
+            "listen",
+            "--port",
+            "0",
+            "--stay",
+            "--idle-transaction",
+            "43201",
+        ],
+        Err(2),
+    ),
+    (
+        &[
+            "amserve",
+            "listen",
+            "--port",
+            "0",
+            "--idle-transaction",
+            "0",
+        ],
+        Ok(Options::Listen(DEFAULTS)),
+    ),
+    (
+        &[
+            "amserve",
+            "listen",
+            "--port",
+            "0",
+            "--idle-transaction",
+            "1",
+        ],
+        Err(2),
+    ),
     (
         &["amserve", "listen", "--port", "0", "--socket", "s"],
         Err(2),

@@ -5,7 +5,7 @@ use am_audit::check;
 use am_btree::BTree;
 use am_core::Store;
 use am_model::{Plain, alone};
-use am_record::{HashKey, Key, NoMemory, Op, Range, Reply, Step};
+use am_record::{HashKey, Key, MAX_RUNS, NoMemory, Op, Range, Reply, Step};
 use std::alloc::Global;
 use std::test::Fail;
 
@@ -202,6 +202,6 @@ fn committed_bodies_are_answered_as_alone(rt: HostRuntime) -> Result<(), Fail> {
     assert!(rt; history.compare().is_ok());
     let commits = history.store.commits();
     assert!(rt; commits >= 100);
-    assert!(rt; check(rt.alloc(), &history.trace) == Ok(commits));
+    assert!(rt; check(rt.alloc(), MAX_RUNS, &history.trace) == Ok(commits));
     Ok(())
 }

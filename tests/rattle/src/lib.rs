@@ -1,6 +1,6 @@
 //! Worked examples of the crates: of records, indexes, partitions, directories, loads, scans, locks, what is undone, transactions,
 //! merges, the plain map, structs of C, lines, replies, streams, stored traces with their audits and command lines; of steps and
-//! lines that take several crates; of a long history; and of seats, words and workers on threads, and clients of a server.
+//! lines that take several crates; of a long history; and of seats, words and workers on threads, clients of a server, and replicas.
 //!
 //! They are run by the kit's checked build, and not proved. Their files end in `.rs`, so that the gate doesn't read them.
 #![tactic(auto)]
@@ -35,6 +35,8 @@ mod plain;
 mod recording;
 mod records;
 mod refused;
+mod replica_logs;
+mod replicas;
 mod replies;
 mod requests;
 mod rooms;

@@ -4,7 +4,7 @@ use crate::entries::{byte, dead, live};
 use am_list_index::ListIndex;
 use am_loads::load;
 use am_parts::Parts;
-use am_record::{Entry, HashKey, Key, MAX_RUNS, NoMemory, Refusal, Reply, Value};
+use am_record::{Entry, HashKey, Key, LAST_RUN, MAX_RUNS, NoMemory, Refusal, Reply, Value};
 use am_runs::{LoadFault, Run, cut_runs};
 use std::alloc::Global;
 use std::process::Abort;
@@ -315,19 +315,26 @@ fn a_load_refused_memory_leaves_the_entries(rt: HostRuntime) {
     }
 }
 
+// Runs 1 and 65,537 are one to the directory.
 #[test]
-fn runs_are_limited(rt: HostRuntime) {
+fn runs_share_a_place(rt: HostRuntime) {
     let mut parts = no_entries(rt.alloc());
-    let run = run_with(&rt, rt.alloc(), &[pair(1, b'a')]);
-    make_runs(&mut parts, MAX_RUNS);
-    assert!(rt; parts.runs() == 65_535);
-    assert!(rt; load(&mut parts, &run) == Reply::Refused(Refusal::TooManyRuns));
-    assert!(rt; parts.next_any(0, Key::least()).is_none());
+    let first = run_with(&rt, rt.alloc(), &[pair(1, b'a')]);
+    let later = run_with(&rt, rt.alloc(), &[pair(2, b'b')]);
+    assert!(rt; load(&mut parts, &first) == Reply::Done);
+    make_runs(&mut parts, MAX_RUNS + 1);
+    assert!(rt; load(&mut parts, &later) == Reply::Done);
+    assert!(rt; parts.runs() == 65_537);
+    assert!(rt; parts.open_runs() == 2);
+    assert!(rt; parts.place_of(Key::of_u64(1)) == Some(1));
+    assert!(rt; parts.place_of(Key::of_u64(2)) == Some(65_537));
+    assert!(rt; parts.place_of(Key::of_u64(3)).is_none());
+    assert!(rt; load(&mut parts, &first) == Reply::Exists(Key::of_u64(1)));
 }
 
 // Counts runs with no entries until there are so many, or no more may be made.
 fn make_runs(parts: &mut Parts<ListIndex>, count: u32) {
-    while parts.runs() < count.min(MAX_RUNS) {
+    while parts.runs() < count.min(LAST_RUN) {
         parts.count_run();
     }
 }

@@ -4,7 +4,8 @@ use am_dialogue::HoldAnswer;
 use am_record::{Reply, Step};
 use am_session::{Backend, End, serve};
 use am_sink::{Failed, Sink, StopSink};
-use am_stream::PieceSource;
+use am_stream::{PieceSource, Source};
+use std::process::Abort;
 use std::rt::Clock;
 use std::sync::Wait;
 use std::sync::atomic::{AtomicU64, Ordering};
@@ -23,6 +24,7 @@ impl<'a> Backend for Noting<'a> {
       steps = λ _ _ _ _. Unit {0};
       shows = λ _ _ _ _. Unit {0};
       holds = λ _ _ _. Unit {0};
+      lapses = Unit {0};
     } };
 
     fn call<W: Wait>(&mut self, _rt: &W, step: Step) -> Reply {
@@ -54,6 +56,10 @@ impl<'a> Backend for Noting<'a> {
         HoldAnswer::Granted
     }
 
+    fn may_lapse(&self) -> bool {
+        true
+    }
+
     fn await_turn<W: Wait + Clock>(&self, _rt: &W) {}
 
     fn await_ticket<W: Wait + Clock>(&self, _rt: &W) {}
@@ -82,6 +88,82 @@ fn what_is_active_is_aborted(rt: HostRuntime) -> Result<(), Fail> {
         let end = serve(&rt, rt.alloc(), &mut source, &mut sink, &mut backend, 0);
         assert!(rt; end == End::NoMemory || aborts.load(Ordering::SeqCst) == 1);
     }
+    Ok(())
+}
+
+/// A source of some pieces, with a wait that is too long before each, where somebody waits in time.
+#[derive(Drop)]
+struct Slow<'a> {
+    pieces: &'a [&'a [u8]],
+    is_late: bool,
+}
+
+impl<'a> Source for Slow<'a> {
+    ghost comes = { λ _ _. Unit {0} };
+
+    ghost failures = { λ _. 0 };
+
+    fn take(&mut self, into: &mut [u8]) -> Result<usize, Failed> {
+        let Some((first, rest)) = self.pieces.split_first() else {
+            return Ok(0);
+        };
+        into[..first.len()].copy_from_slice(first);
+        self.pieces = rest;
+        self.is_late = true;
+        Ok(first.len())
+    }
+
+    fn await_more(&mut self) -> bool {
+        !std::mem::replace(&mut self.is_late, false)
+    }
+}
+
+// What a session answers whose lines come too late, and how many of its transactions were aborted.
+fn has_lapsed(
+    rt: &(impl Abort + AllocGlobal + Wait + Clock),
+    pieces: &[&[u8]],
+    answers: &[u8],
+    count: u64,
+) {
+    let aborts = AtomicU64::new(0);
+    let mut backend = Noting {
+        active: None,
+        aborts: &aborts,
+    };
+    let mut source = Slow {
+        pieces,
+        is_late: false,
+    };
+    let mut sink = StopSink::new(rt.alloc(), 0);
+    let end = serve(rt, rt.alloc(), &mut source, &mut sink, &mut backend, 0);
+    assert!(rt; end == End::Quit);
+    assert!(rt; sink.into_bytes().as_slice() == answers);
+    assert!(rt; aborts.load(Ordering::SeqCst) == count);
+}
+
+// A line that comes too late is told so, whatever it is, and does nothing; the next one is answered as ever. A line that
+// had begun in time is late where it ends too late.
+#[test]
+fn late_lines_do_nothing(rt: HostRuntime) -> Result<(), Fail> {
+    has_lapsed(
+        &rt,
+        &[
+            b"SEEN\n",
+            b"BEGIN\n",
+            b"QUIT\n",
+            b"BEGIN\nGET",
+            b" 5\nCOMMIT\n",
+            b"QUIT\n",
+        ],
+        b"SEEN 0 0\nBEGUN 1\nERR IDLE\nBEGUN 1\nERR IDLE\nERR NOTX\nBYE\n",
+        2,
+    );
+    has_lapsed(
+        &rt,
+        &[b"BEGIN\nCOMMIT\n", b"QUIT\n"],
+        b"BEGUN 1\nCOMMITTED 1\nBYE\n",
+        0,
+    );
     Ok(())
 }
 

@@ -5,7 +5,7 @@ use am_counters::Counters;
 use am_doors::{Door, Doors, House, Limits, Mode, listen_at_port};
 use am_engine::was_refused;
 use am_latch::{Blank, Latch, LatchName, Seat, Taker, close};
-use am_record::{HashKey, Key, Op, Refusal, Reply, Step, Value};
+use am_record::{HashKey, Key, MAX_RUNS, Op, Refusal, Reply, Step, Value};
 use am_session_seat::{assign_seats, take_seats};
 use std::alloc::Global;
 use std::marker::Brand;
@@ -76,7 +76,7 @@ fn by_two_threads<L: LatchName + Send + Sync, R: Threads + Wait + Abort + Sync>(
     };
     assert_eq!(rt; closed.trace.len(), 600);
     assert_eq!(rt; closed.store.commits(), 200);
-    assert!(rt; check(alloc, &closed.trace) == Ok(200));
+    assert!(rt; check(alloc, MAX_RUNS, &closed.trace) == Ok(200));
     for seat in &closed.seats {
         assert_eq!(rt; seat.positions().len(), 300);
         assert!(rt; seat.last_commit().is_some());
@@ -160,6 +160,7 @@ fn the_first_seats_are_the_sessions(rt: HostRuntime) -> Result<(), Fail> {
     };
     let limits = Limits {
         idle: None,
+        lapse: None,
         hold: 0,
     };
     let is_stopped = AtomicBool::new(false);
@@ -247,7 +248,7 @@ fn in_pieces<L: LatchName, R: Wait + Abort>(
     let mut whole = first.trace;
     let mut rest = closed.trace;
     whole.append(&mut rest)?;
-    assert!(rt; check(alloc, &whole) == Ok(2));
+    assert!(rt; check(alloc, MAX_RUNS, &whole) == Ok(2));
     Ok(())
 }
 
@@ -307,7 +308,7 @@ fn beside_two_seats<L: LatchName + Send + Sync, R: Threads + Wait + Abort + Sync
     };
     taken.append(&mut closed.trace)?;
     assert_eq!(rt; taken.len(), 600);
-    assert!(rt; check(alloc, &taken) == Ok(200));
+    assert!(rt; check(alloc, MAX_RUNS, &taken) == Ok(200));
     Ok(())
 }
 

@@ -50,6 +50,7 @@ fn nobody_keeps() -> Keeping<LetGo, Unwatched> {
         grace: None,
         limits: Limits {
             idle: None,
+            lapse: None,
             hold: 0,
         },
     }

@@ -1,7 +1,7 @@
 //! Lines, however their bytes come.
 
 use am_sink::{Sink, StopSink};
-use am_stream::{AnsweredSource, Input, LineBuffer, LineKind, PieceSource, read_line};
+use am_stream::{AnsweredSource, Coming, Input, LineBuffer, LineKind, PieceSource, read_line};
 use std::alloc::Global;
 use std::process::Abort;
 use std::sync::Wait;
@@ -22,11 +22,12 @@ pub fn lines_of<W: Wait + Abort, K: Sink, S: AnsweredSource<K>>(
     let mut line = LineBuffer::new(alloc).expect(rt, "memory");
     let mut seen = Vec::new(alloc);
     'lines: for _ in 0..100 {
-        let Ok(next) = read_line(rt, &mut input, source, sink, &mut line) else {
+        line.clear();
+        let Ok(coming) = read_line(rt, &mut input, source, sink, &mut line, false) else {
             write(rt, &mut seen, b"!");
             return seen;
         };
-        let Some(found) = next else {
+        let Coming::Line(found) = coming else {
             return seen;
         };
         match found.kind {

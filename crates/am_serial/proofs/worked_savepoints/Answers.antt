@@ -10,16 +10,17 @@ use Rattle.am_record.specs.declared.step.Reply.{Reply}
 use Rattle.am_record.specs.declared.step.Reply.TheVariants.{Done, Found, Absent, NoMark, Refused}
 use Rattle.am_record.specs.Plain.{answer}
 use Rattle.am_serial.specs.Trace.{Begins, Answers, Commits}
-use Rattle.am_serial.specs.Machine.{State, start, next, due, view, MayDo, Runs}
+use Rattle.am_serial.specs.Machine.{State, start, next, is_full, due, view, MayDo, Runs}
 use Rattle.am_serial.specs.Rows.{key_a, key_b, one, two, three, nested_marks, back_keeps_locks, back_forgotten}
 use Rattle.am_serial.proofs.worked_savepoints.Goals as goal
 
-granted : (s : State) (t : ℕ) (op : Op) (reply : Reply) → due s t op ≡ None → reply ≡ answer op (view s t) →
-    MayDo s t op reply
+granted : (s : State) (t : ℕ) (op : Op) (reply : Reply) → due (is_full 65535 s.runs reply) s t op ≡ None →
+    reply ≡ answer op (view s t) → MayDo 65535 s t op reply
 granted s t op reply d e = subst (λ o. MatchOption o ((reply ≡ answer op (view s t)) ⊎ (reply ≡ Refused NoMemory))
     (λ why. reply ≡ Refused why)) (sym d) (inl e)
 
-refused : (s : State) (t : ℕ) (op : Op) (why : Refusal) → due s t op ≡ Some why → MayDo s t op (Refused why)
+refused : (s : State) (t : ℕ) (op : Op) (why : Refusal) → due (is_full 65535 s.runs (Refused why)) s t op ≡ Some why →
+    MayDo 65535 s t op (Refused why)
 refused s t op why d = subst (λ o. MatchOption o ((Refused why ≡ answer op (view s t)) ⊎
     (Refused why ≡ Refused NoMemory)) (λ w. Refused why ≡ Refused w)) (sym d) refl
 
@@ -66,7 +67,7 @@ n12 = next n11 (Answers 1 (Get key_b) Absent)
 abbrev n13 : State
 n13 = next n12 (Answers 1 Back NoMark)
 
-row_nested : Runs start nested_marks
+row_nested : Runs 65535 start nested_marks
 row_nested = (
   (refl, lit< tt, lit< tt),
   (
@@ -117,7 +118,7 @@ row_nested = (
   ),
 )
 
-row_locks : Runs start back_keeps_locks
+row_locks : Runs 65535 start back_keeps_locks
 row_locks =
     let s2 = next (next start (Begins 1)) (Begins 2) in
     let s3 = next s2 (Answers 1 Mark Done) in
@@ -147,12 +148,13 @@ row_locks =
     )
 
 -- what a granted operation may be answered
-may_only : (s : State) (t : ℕ) (op : Op) (reply : Reply) → due s t op ≡ None → MayDo s t op reply →
+may_only : (s : State) (t : ℕ) (op : Op) (reply : Reply) → due (is_full 65535 s.runs reply) s t op ≡ None →
+    MayDo 65535 s t op reply →
     (reply ≡ answer op (view s t)) ⊎ (reply ≡ Refused NoMemory)
 may_only s t op reply d m = subst (λ o. MatchOption o ((reply ≡ answer op (view s t)) ⊎ (reply ≡ Refused NoMemory))
     (λ why. reply ≡ Refused why)) d m
 
-row_forgotten : Runs start back_forgotten → ⊥
+row_forgotten : Runs 65535 start back_forgotten → ⊥
 row_forgotten r =
     let s4 = next (next (next (next start (Begins 1)) (Answers 1 Mark Done)) (Answers 1 (Insert key_a one) Done))
     (Answers 1 Back Done) in

@@ -5,8 +5,8 @@ use Rattle.am_sound.proofs.steps_lift.Goals as goal
 
 pub returns : goal.returns
 returns c = record {
-  opened = record { follows = tt; here = refl };
+  opened = λ most_runs. record { follows = tt; here = refl };
   lift = lift;
   fit = fit;
-  sound = λ trace p at. sound_store trace at.follows;
+  sound = λ trace p at. sound_store p.most_runs trace at.follows;
 }

@@ -20,6 +20,7 @@ returns-clause-spoke g c =
     (PartsBehind g.K.Sink.holds (λ x y z. Unit {0}) c.args.sink.now c.serve.new.sink b) (λ text. Unit {0}) done done
     (λ exchanges torn events. AnswersAll solo_meaning auto s0 exchanges torn events b) (IsSpoken auto) (b ≡ s0)
     (Unit {0}) (λ bytes h. h) (λ text h. h) (λ text h. tt) (λ h. h)
-    (spoken auto s0 b c.in-Ok.ensures c.steps_lift.ensures.opened c.steps_lift.ensures.sound
-    c.sound_traces_are_legal.ensures (c.sound_dialogues_say.ensures auto) (c.answers_are_lines.ensures auto))
+    (spoken auto s0 b c.in-Ok.ensures (c.steps_lift.ensures.opened 65535) c.steps_lift.ensures.sound
+    (c.sound_traces_are_legal.ensures 65535) (c.sound_dialogues_say.ensures auto)
+    (c.answers_are_lines.ensures 65535 auto))
     (λ h. tt) c.serve.result c.serve.ensures.served

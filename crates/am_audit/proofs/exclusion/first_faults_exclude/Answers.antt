@@ -3,6 +3,6 @@ use Rattle.am_audit.proofs.exclusion.first_faults_exclude.Goals as goal
 
 pub returns : goal.returns
 returns c = record {
-  legal = not_legal c.formed_traces_follow.ensures;
-  one = one_first_fault c.formed_traces_follow.ensures;
+  legal = λ most_runs. not_legal most_runs (c.formed_traces_follow.ensures most_runs);
+  one = λ most_runs. one_first_fault most_runs (c.formed_traces_follow.ensures most_runs);
 }

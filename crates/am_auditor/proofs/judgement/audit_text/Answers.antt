@@ -20,7 +20,7 @@ lines-preserved c =
     one_more c.args.text.now c.in-Some.version c.lines.rest.now c.in-Ok-read_line.read.1.now c.lines.line
     c.in-Ok-read_line.read.0.0 c.in-Ok-read_line.read.0.1 c.lines.audit c.judge.new.self c.lines.invariant
     c.in-Ok-read_line.ensures.event.0 c.in-Ok-read_line.ensures.event.1
-    c.judge.ensures
+    (c.judge.ensures 65535)
 
 pub returns-clause-judged : goal.returns-clause-judged
 returns-clause-judged c =

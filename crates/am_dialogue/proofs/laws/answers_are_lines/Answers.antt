@@ -11,8 +11,14 @@ use Rattle.am_dialogue.proofs.AnsweredLines.{Tells, tells}
 use Rattle.am_dialogue.proofs.laws.answers_are_lines.Goals as goal
 
 pub returns : goal.returns
-returns c = λ auto exchanges torn trace follows (_, a).
+returns c = λ most_runs auto exchanges torn trace follows (_, a).
     All-from_recursion (λ (e : Exchange). IsOneLine (response_text e.1)) (with_torn exchanges torn)
     (conversation_so alone_meaning auto Tells (tells alone_meaning auto) exchanges torn (alone_start, []) a.last a.own
     a.converses a.aborting
-    (record { to = opened; visible = opened_visible; waits = tt; follows = subst (Follows opened) a.are follows })).0
+    (record {
+      to = opened;
+      visible = opened_visible;
+      waits = tt;
+      most_runs = most_runs;
+      follows = subst (Follows most_runs opened) a.are follows;
+    })).0

@@ -17,5 +17,5 @@ unfolding opened
 returns c = λ auto exchanges torn trace sound (_, a).
     let goes = conversation_so alone_meaning auto SaysSo (says_so auto) exchanges torn (alone_start, []) a.last a.own
     a.converses opened a.aborting refl
-    (subst (Runs (machine_at opened)) a.are ((c.sound_traces_are_runs.ensures trace).0 sound)) in
+    (subst (Runs 65535 (machine_at opened)) a.are ((c.sound_traces_are_runs.ensures 65535 trace).0 sound)) in
     subst Says (append-nil (with_torn exchanges torn)) (goes.says [] tt)

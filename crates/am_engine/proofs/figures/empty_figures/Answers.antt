@@ -5,8 +5,8 @@ use Rattle.am_engine.proofs.figures.empty_figures.Goals as goal
 
 pub returns : goal.returns
 returns c = record {
-  store = empty_state;
-  stands = stands_opened empty_state c.steps_lift.ensures.opened c.steps_lift.ensures.sound refl;
+  store = empty_state 65535;
+  stands = stands_opened 65535 (empty_state 65535) (c.steps_lift.ensures.opened 65535) c.steps_lift.ensures.sound refl;
   figures = record {
     entries = refl;
     in_final = refl;

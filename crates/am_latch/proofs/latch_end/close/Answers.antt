@@ -80,8 +80,9 @@ returns-clause-stands g c = subst (λ (l : Trace). IsSoundAt l c.into_parts-trac
     c.into_parts-trace.ensures.stands
 
 pub returns-clause-legal : goal.returns-clause-legal
-returns-clause-legal g c = subst IsLegal (sym (whole_trace g c))
-    (c.sound_traces_are_legal.ensures _ c.into_parts-trace.ensures.stands.sound.sound)
+returns-clause-legal g c = subst (IsLegal 65535) (sym (whole_trace g c))
+    (subst (λ (n : ℕ). IsLegal n c.engine.inside.engine.trace) c.into_parts-trace.ensures.most
+    (c.sound_traces_are_legal.ensures _ _ c.into_parts-trace.ensures.stands.sound.sound))
 
 pub returns-clause-all : goal.returns-clause-all
 returns-clause-all g c =

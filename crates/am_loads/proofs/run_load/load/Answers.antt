@@ -23,8 +23,9 @@ returns-then-is_ok-clause-answer g c =
     let none = least_from_none m c.pairs-pairs.result.now
     (on_ok c.append_run.result (is_appended g c) c.append_run.ensures.dead) in
     let due : load_due c.args.parts.now c.args.run.now ≡ exists_or_done (least_taken c.args.run.now m) =
-    cond-false (c.args.parts.now.runs == 65535) (Refused TooManyRuns) (exists_or_done (least_taken c.args.run.now m))
-    (ne_eqb c.args.parts.now.runs 65535 (λ e. c.if-runs-eq-MAX_RUNS.false (c.runs.ensures.runs ∙ e))) in
+    cond-false (c.args.parts.now.runs == 4294967294) (Refused TooManyRuns)
+    (exists_or_done (least_taken c.args.run.now m))
+    (ne_eqb c.args.parts.now.runs 4294967294 (λ e. c.if-runs-eq-LAST_RUN.false (c.runs.ensures.runs ∙ e))) in
     inl (sym (due ∙ ap exists_or_done (ap (λ (rs : Records). least_taken rs m) (sym c.pairs-pairs.ensures.all) ∙ none)))
 
 pub returns-then-is_ok-clause-done : goal.returns-then-is_ok-clause-done

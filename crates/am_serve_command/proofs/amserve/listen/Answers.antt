@@ -12,8 +12,10 @@ returns c =
     c.number-2.ensures c.in_ok-arg-3.ensures in
     let with_idle = arg_added c.in_ok-arg-3.field-0 c.in_ok-arg-4.field-0 c.number-3.result _ _ with_grace
     c.number-3.ensures c.in_ok-arg-4.ensures in
-    let with_socket = arg_added c.in_ok-arg-4.field-0 c.in_ok-arg-5.field-0 c.option.result _ _ with_idle
-    c.option.ensures c.in_ok-arg-5.ensures in
-    IfOk-weaker c.arg-6.result _ _
-    (λ command adds. arg_added c.in_ok-arg-5.field-0 command c.flag-2.result _ _ with_socket c.flag-2.ensures adds)
-    c.arg-6.ensures
+    let with_lapse = arg_added c.in_ok-arg-4.field-0 c.in_ok-arg-5.field-0 c.number-4.result _ _ with_idle
+    c.number-4.ensures c.in_ok-arg-5.ensures in
+    let with_socket = arg_added c.in_ok-arg-5.field-0 c.in_ok-arg-6.field-0 c.option.result _ _ with_lapse
+    c.option.ensures c.in_ok-arg-6.ensures in
+    IfOk-weaker c.arg-7.result _ _
+    (λ command adds. arg_added c.in_ok-arg-6.field-0 command c.flag-2.result _ _ with_socket c.flag-2.ensures adds)
+    c.arg-7.ensures

@@ -1,11 +1,11 @@
-use Rattle.std.proofs.Common.{◌≡◌, sym, ◌∙◌, refl, true, false, Bool, List, ℕ, subst}
+use Rattle.std.proofs.Common.{◌≡◌, sym, ◌∙◌, refl, true, false, Bool, List, ℕ, subst, ◌++◌}
 use Rattle.std.proofs.lemmas.Bool.{not-true, not-false}
 use Rattle.am_stream.specs.LineAnswers.{seen}
 use Rattle.am_stream.specs.Lines.{TookLine}
-use Rattle.am_dialogue.specs.ParsedLine.{MayParse, is_quit, parsed}
+use Rattle.am_session.specs.Heard.{MayHear}
 use Rattle.am_session.proofs.SessionProgress.{talk_start, talk_more, talk_end, talk_quit, talk_torn, talk_last}
 use Rattle.am_session.proofs.SessionProgress.{talk_failed}
-use Rattle.am_session.proofs.HeardLines.{heard_quit, line_answered}
+use Rattle.am_session.proofs.HeardLines.{quit_heard, goes_on_heard, line_answered}
 use Rattle.am_session.proofs.session.talk.Goals as goal
 
 pub lines-init : goal.lines-init
@@ -21,91 +21,110 @@ lines-init g c = record {
 pub returns-in_default-clause-talked : goal.returns-in_default-clause-talked
 returns-in_default-clause-talked g c = talk_failed g.S.AnsweredSource.comes g.K.Sink.holds g.B.Backend.means c.args.auto
     c.args.source.now c.lines.source c.next_line.new.source c.args.sink.now c.lines.sink
-    (c.args.backend.now, c.args.session.now.staged) (c.lines.backend, c.lines.session.staged) c.lines.input
-    c.next_line.new.input c.lines.invariant.talks c.in_default.ensures.part c.in_default.ensures.empty
+    (c.args.backend.now, c.args.session.now.staged) (c.lines.backend, c.lines.session.staged)
+    (c.next_line.new.backend, c.next_line.new.session.staged) c.lines.input
+    c.next_line.new.input c.lines.invariant.talks c.in_default.ensures.lapsed_at_failure c.in_default.ensures.part
+    c.in_default.ensures.empty
 
 pub returns-in_default-next-clause-talked : goal.returns-in_default-next-clause-talked
 returns-in_default-next-clause-talked g c =
     let e = rw c.in_default-next.is at c.in-Ok.ensures.end in
+    let waits = rw c.in_default-next.is at c.in-Ok.ensures.lapsed_at_end in
     talk_end g.S.AnsweredSource.comes g.K.Sink.holds g.B.Backend.means c.args.auto c.args.source.now c.lines.source
     c.next_line.new.source c.args.sink.now c.lines.sink (c.args.backend.now, c.args.session.now.staged)
-    (c.lines.backend, c.lines.session.staged) c.lines.input c.next_line.new.input c.lines.invariant.talks e.0 e.1
+    (c.lines.backend, c.lines.session.staged) (c.next_line.new.backend, c.next_line.new.session.staged) c.lines.input
+    c.next_line.new.input c.lines.invariant.talks waits e.0 e.1
 
 pub returns-then-is_quit-clause-talked : goal.returns-then-is_quit-clause-talked
 returns-then-is_quit-clause-talked g c =
     let l = rw c.in-Some-next.is at c.in-Ok.ensures.line in
-    let line = seen c.in-Some-next.found.kind c.next_line.new.line in
-    let may : MayParse line c.parse-parsed.result =
-    subst (λ (x : List ℕ). MayParse (seen c.in-Some-next.found.kind x) c.parse-parsed.result) c.as_slice.ensures
-    c.parse-parsed.ensures in
-    let q : is_quit (parsed line) ≡ true = sym (heard_quit line c.parse-parsed.result may) ∙ sym c.if-is_quit.ensures in
+    let line = seen c.in-Some-next.read.found.kind c.next_line.new.line in
+    let late = c.in-Some-next.read.is_late in
+    let may : MayHear late line c.hear-heard.result =
+    subst (λ (x : List ℕ). MayHear late (seen c.in-Some-next.read.found.kind x) c.hear-heard.result) c.as_slice.ensures
+    c.hear-heard.ensures in
+    let waits = rw c.in-Some-next.is at c.in-Ok.ensures.waited in
+    let q = quit_heard late line c.hear-heard.result may (sym c.if-is_quit.ensures) in
     talk_quit g.S.AnsweredSource.comes g.K.Sink.holds g.B.Backend.means c.args.auto c.args.source.now c.lines.source
     c.next_line.new.source c.args.sink.now c.lines.sink (c.args.backend.now, c.args.session.now.staged)
-    (c.lines.backend, c.lines.session.staged) c.lines.input c.next_line.new.input line c.in-Some-next.found.is_ended
-    c.lines.invariant.talks l q
+    (c.lines.backend, c.lines.session.staged) c.lines.input c.next_line.new.input line
+    c.in-Some-next.read.found.is_ended
+    c.lines.invariant.talks l (c.next_line.new.backend, c.next_line.new.session.staged) (late, waits.0, waits.1) q
 
 pub returns-in_default-answer-clause-talked : goal.returns-in_default-answer-clause-talked
 returns-in_default-answer-clause-talked g c =
     let l = rw c.in-Some-next.is at c.in-Ok.ensures.line in
-    let line = seen c.in-Some-next.found.kind c.next_line.new.line in
-    let may : MayParse line c.parse-parsed.result =
-    subst (λ (x : List ℕ). MayParse (seen c.in-Some-next.found.kind x) c.parse-parsed.result) c.as_slice.ensures
-    c.parse-parsed.ensures in
-    let q : is_quit (parsed line) ≡ false = sym (heard_quit line c.parse-parsed.result may) ∙
-    sym c.if-is_quit.ensures in
+    let line = seen c.in-Some-next.read.found.kind c.next_line.new.line in
+    let late = c.in-Some-next.read.is_late in
+    let may : MayHear late line c.hear-heard.result =
+    subst (λ (x : List ℕ). MayHear late (seen c.in-Some-next.read.found.kind x) c.hear-heard.result) c.as_slice.ensures
+    c.hear-heard.ensures in
+    let waits = rw c.in-Some-next.is at c.in-Ok.ensures.waited in
     let t = c.in_default-answer.ensures.torn in
     let a = line_answered g.B.Backend.means (c.lines.backend, c.lines.session.staged)
-    (c.answer.new.backend, c.answer.new.session.staged) line c.parse-parsed.result t.0 t.1 may t.4 in
+    (c.next_line.new.backend, c.next_line.new.session.staged) (c.answer.new.backend, c.answer.new.session.staged) line
+    late c.hear-heard.result t.0 waits.0 t.1 waits.1 may t.4 in
+    let q = goes_on_heard g.B.Backend.means (c.next_line.new.backend, c.next_line.new.session.staged)
+    (c.answer.new.backend, c.answer.new.session.staged) line late c.hear-heard.result t.0 t.1 may t.4
+    (sym c.if-is_quit.ensures) in
     talk_torn g.S.AnsweredSource.comes g.K.Sink.holds g.B.Backend.means c.args.auto c.args.source.now c.lines.source
     c.next_line.new.source c.args.sink.now c.lines.sink c.answer.new.sink
     (c.args.backend.now, c.args.session.now.staged) (c.lines.backend, c.lines.session.staged)
     (c.answer.new.backend, c.answer.new.session.staged) c.lines.input c.next_line.new.input (line, t.0)
-    c.in-Some-next.found.is_ended t.1 t.2 c.lines.invariant.talks l q t.3 a
+    c.in-Some-next.read.found.is_ended (waits.0 ++ t.1) t.2 c.lines.invariant.talks l q t.3 a
 
 pub returns-then-not-found-clause-talked : goal.returns-then-not-found-clause-talked
 returns-then-not-found-clause-talked g c =
     let m = rw c.in-Some-next.is at c.in-Ok.ensures.line in
-    let line = seen c.in-Some-next.found.kind c.next_line.new.line in
-    let d : c.in-Some-next.found.is_ended ≡ false = not-true _ c.if-not-found.true in
+    let line = seen c.in-Some-next.read.found.kind c.next_line.new.line in
+    let late = c.in-Some-next.read.is_late in
+    let may : MayHear late line c.hear-heard.result =
+    subst (λ (x : List ℕ). MayHear late (seen c.in-Some-next.read.found.kind x) c.hear-heard.result) c.as_slice.ensures
+    c.hear-heard.ensures in
+    let waits = rw c.in-Some-next.is at c.in-Ok.ensures.waited in
+    let d : c.in-Some-next.read.found.is_ended ≡ false = not-true _ c.if-not-found.true in
     let l = subst (λ (b : Bool). TookLine g.S.AnsweredSource.comes c.lines.input c.lines.source line b
     c.next_line.new.input c.next_line.new.source) d m in
-    let may : MayParse line c.parse-parsed.result =
-    subst (λ (x : List ℕ). MayParse (seen c.in-Some-next.found.kind x) c.parse-parsed.result) c.as_slice.ensures
-    c.parse-parsed.ensures in
-    let q : is_quit (parsed line) ≡ false = sym (heard_quit line c.parse-parsed.result may) ∙
-    sym c.if-is_quit.ensures in
     let t = c.in-Ok-answer.ensures.answered in
     let a = line_answered g.B.Backend.means (c.lines.backend, c.lines.session.staged)
-    (c.answer.new.backend, c.answer.new.session.staged) line c.parse-parsed.result t.0 t.1 may t.3 in
+    (c.next_line.new.backend, c.next_line.new.session.staged) (c.answer.new.backend, c.answer.new.session.staged) line
+    late c.hear-heard.result t.0 waits.0 t.1 waits.1 may t.3 in
+    let q = goes_on_heard g.B.Backend.means (c.next_line.new.backend, c.next_line.new.session.staged)
+    (c.answer.new.backend, c.answer.new.session.staged) line late c.hear-heard.result t.0 t.1 may t.3
+    (sym c.if-is_quit.ensures) in
     talk_last g.S.AnsweredSource.comes g.K.Sink.holds g.B.Backend.means c.args.auto c.args.source.now c.lines.source
     c.next_line.new.source c.args.sink.now c.lines.sink c.answer.new.sink
     (c.args.backend.now, c.args.session.now.staged) (c.lines.backend, c.lines.session.staged)
     (c.answer.new.backend, c.answer.new.session.staged) (c.merge.new.backend, c.merge.new.session.staged)
-    c.lines.input c.next_line.new.input (line, t.0) t.1 c.merge.ensures.merged.0 c.lines.invariant.talks l q t.2 a
-    c.merge.ensures.merged.1
+    c.lines.input c.next_line.new.input (line, t.0) (waits.0 ++ t.1) c.merge.ensures.merged.0 c.lines.invariant.talks l
+    q t.2 a c.merge.ensures.merged.1
 
 pub lines-preserved : goal.lines-preserved
 lines-preserved g c =
     let m = rw c.in-Some-next.is at c.in-Ok.ensures.line in
-    let line = seen c.in-Some-next.found.kind c.next_line.new.line in
-    let d : c.in-Some-next.found.is_ended ≡ true = not-false _ c.if-not-found.false in
+    let line = seen c.in-Some-next.read.found.kind c.next_line.new.line in
+    let late = c.in-Some-next.read.is_late in
+    let may : MayHear late line c.hear-heard.result =
+    subst (λ (x : List ℕ). MayHear late (seen c.in-Some-next.read.found.kind x) c.hear-heard.result) c.as_slice.ensures
+    c.hear-heard.ensures in
+    let waits = rw c.in-Some-next.is at c.in-Ok.ensures.waited in
+    let d : c.in-Some-next.read.found.is_ended ≡ true = not-false _ c.if-not-found.false in
     let l = subst (λ (b : Bool). TookLine g.S.AnsweredSource.comes c.lines.input c.lines.source line b
     c.next_line.new.input c.next_line.new.source) d m in
-    let may : MayParse line c.parse-parsed.result =
-    subst (λ (x : List ℕ). MayParse (seen c.in-Some-next.found.kind x) c.parse-parsed.result) c.as_slice.ensures
-    c.parse-parsed.ensures in
-    let q : is_quit (parsed line) ≡ false = sym (heard_quit line c.parse-parsed.result may) ∙
-    sym c.if-is_quit.ensures in
     let t = c.in-Ok-answer.ensures.answered in
     let a = line_answered g.B.Backend.means (c.lines.backend, c.lines.session.staged)
-    (c.answer.new.backend, c.answer.new.session.staged) line c.parse-parsed.result t.0 t.1 may t.3 in
+    (c.next_line.new.backend, c.next_line.new.session.staged) (c.answer.new.backend, c.answer.new.session.staged) line
+    late c.hear-heard.result t.0 waits.0 t.1 waits.1 may t.3 in
+    let q = goes_on_heard g.B.Backend.means (c.next_line.new.backend, c.next_line.new.session.staged)
+    (c.answer.new.backend, c.answer.new.session.staged) line late c.hear-heard.result t.0 t.1 may t.3
+    (sym c.if-is_quit.ensures) in
     record {
       talks = talk_more g.S.AnsweredSource.comes g.K.Sink.holds g.B.Backend.means c.args.auto c.args.source.now
           c.lines.source c.next_line.new.source c.args.sink.now c.lines.sink c.answer.new.sink
           (c.args.backend.now, c.args.session.now.staged) (c.lines.backend, c.lines.session.staged)
           (c.answer.new.backend, c.answer.new.session.staged) (c.merge.new.backend, c.merge.new.session.staged)
-          c.lines.input c.next_line.new.input (line, t.0) t.1 c.merge.ensures.merged.0 c.lines.invariant.talks l q t.2 a
-          c.merge.ensures.merged.1;
+          c.lines.input c.next_line.new.input (line, t.0) (waits.0 ++ t.1) c.merge.ensures.merged.0
+          c.lines.invariant.talks l q t.2 a c.merge.ensures.merged.1;
       known = c.merge.ensures.active;
       sent = c.in-Ok-answer.ensures.sent;
       source_ok = c.in-Ok.ensures.ok ∙ c.lines.invariant.source_ok;

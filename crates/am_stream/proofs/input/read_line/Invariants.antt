@@ -1,9 +1,11 @@
-use Rattle.std.proofs.Common.{◌≡◌}
-use Rattle.am_stream.proofs.ReadLines.{IsReading}
+use Rattle.std.proofs.Common.{◌≡◌, ℕ, List}
+use Rattle.am_stream.specs.Lines.{IsReading}
 use Rattle.am_stream.proofs.input.read_line.Given as goal
 
 abbrev pub invariant-bytes : goal.invariant-bytes
 invariant-bytes g l = record {
-  line : IsReading g.S.AnsweredSource.comes l.fn.input l.fn.source l.line l.input l.source;
+  line : (before : List ℕ) (first : _) →
+      IsReading g.S.AnsweredSource.comes before first l.fn.line l.fn.input l.fn.source →
+      IsReading g.S.AnsweredSource.comes before first l.line l.input l.source;
   ok : g.S.AnsweredSource.failures l.source ≡ g.S.AnsweredSource.failures l.fn.source;
 }

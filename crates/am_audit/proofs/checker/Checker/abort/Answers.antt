@@ -1,4 +1,5 @@
 use Rattle.std.proofs.Common.{refl, sym, ap, ◌∙◌}
+use Rattle.std.proofs.lemmas.Bool.{false≢true}
 use Rattle.std.specs.Prelude.{map}
 use Rattle.am_replies.specs.OwnAnswers.{listed, is_listed}
 use Rattle.am_audit.proofs.EventSteps.{takes_still, abort_nothing, is_active, is_owned, takes_abort}
@@ -17,16 +18,23 @@ end-requires g c =
 
 pub returns-then-was_active-clause-takes : goal.returns-then-was_active-clause-takes
 returns-then-was_active-clause-takes g c =
-    takes_abort c.args.self.now _ g.here c.args.tx c.args.reply.now c.requires
+    takes_abort c.args.self.now.most_runs c.args.self.now _ g.here c.args.tx c.args.reply.now c.requires
     (sym (c.is_active-was_active.ensures ∙ ap (λ all. is_listed (map listed all) c.args.tx) c.deref.ensures.value ∙
     is_active c.args.self.now g.here c.requires c.args.tx) ∙ c.if-was_active.true)
-    (c.if-not-may_abort.ensures.0 refl) refl refl refl c.end.ensures.active c.end.ensures.locks refl
+    ((c.if-not-may_abort.ensures c.args.self.now.most_runs).0 refl) refl refl refl c.end.ensures.active
+    c.end.ensures.locks refl
 
 pub returns-else-was_active-clause-takes : goal.returns-else-was_active-clause-takes
 returns-else-was_active-clause-takes g c =
-    takes_still _ g.here _ c.args.reply.now
-    (abort_nothing g.here.state c.args.tx c.args.reply.now
+    takes_still c.args.self.now.most_runs _ g.here _ c.args.reply.now
+    (abort_nothing c.args.self.now.most_runs g.here.state c.args.tx c.args.reply.now
     (sym (c.is_active-was_active.ensures ∙ ap (λ all. is_listed (map listed all) c.args.tx) c.deref.ensures.value ∙
     is_active c.args.self.now g.here c.requires c.args.tx) ∙ c.if-was_active.false)
-    (c.if-not-may_abort.ensures.0 refl))
-    (record { formed = c.if-not-may_abort.ensures.0 refl; busy = tt }) c.requires
+    ((c.if-not-may_abort.ensures c.args.self.now.most_runs).0 refl))
+    (record { formed = (c.if-not-may_abort.ensures c.args.self.now.most_runs).0 refl; busy = tt }) c.requires
+
+pub returns-then-not-may_abort-clause-event_fault : goal.returns-then-not-may_abort-clause-event_fault
+returns-then-not-may_abort-clause-event_fault g c = record {
+  form = λ may. false≢true ((c.if-not-may_abort.ensures c.args.self.now.most_runs).1 may);
+  first = λ early. tt;
+}

@@ -1,4 +1,5 @@
 use Rattle.std.proofs.Common.{refl, ◌∙◌}
+use Rattle.std.proofs.lemmas.Bool.{false≢true}
 use Rattle.am_audit.proofs.EventSteps.{takes_still}
 use Rattle.am_audit.proofs.Bodies.{listed_open}
 use Rattle.am_audit.proofs.Performs.{commit_nothing, owner_ends, listed_here, replay_flaw, takes_commit}
@@ -12,29 +13,44 @@ may_commit-requires g c = (
 
 pub returns-in_default : goal.returns-in_default
 returns-in_default g c = record {
-  takes = takes_still _ g.here _ c.args.reply.now (commit_nothing c.args.tx c.args.reply.now c.in_default.not-Committed)
-      (record { formed = c.if-not-may_commit.ensures.0 refl; busy = tt }) c.requires;
+  takes = takes_still c.args.self.now.most_runs _ g.here _ c.args.reply.now
+      (commit_nothing c.args.tx c.args.reply.now c.in_default.not-Committed)
+      (record { formed = (c.if-not-may_commit.ensures c.args.self.now.most_runs).0 refl; busy = tt }) c.requires;
   event_fault = tt;
+  most = refl;
 }
 
 pub unreachable-requires : goal.unreachable-requires
 unreachable-requires g c =
-    listed_here c.args.self.now g.here c.requires c.args.tx c.args.reply.now c.in-Committed.commit c.in-Committed.is
-    (c.if-not-may_commit.ensures.0 refl) _ c.deref-2.ensures.value c.in_default-own_answers.ensures.none
+    listed_here c.args.self.now.most_runs c.args.self.now g.here c.requires c.args.tx c.args.reply.now
+    c.in-Committed.commit c.in-Committed.is
+    ((c.if-not-may_commit.ensures c.args.self.now.most_runs).0 refl) _ c.deref-2.ensures.value
+    c.in_default-own_answers.ensures.none
 
 pub returns-in-Err-clause-event_fault : goal.returns-in-Err-clause-event_fault
 returns-in-Err-clause-event_fault g c =
-    replay_flaw c.args.self.now g.here c.requires c.args.tx c.args.reply.now c.in-Committed.commit c.in-Committed.is
-    (c.if-not-may_commit.ensures.0 refl) _ c.deref-2.ensures.value _ c.in-Some.ensures.found.1
+    replay_flaw c.args.self.now.most_runs c.args.self.now g.here c.requires c.args.tx c.args.reply.now
+    c.in-Committed.commit c.in-Committed.is
+    ((c.if-not-may_commit.ensures c.args.self.now.most_runs).0 refl) _ c.deref-2.ensures.value _
+    c.in-Some.ensures.found.1
     c.in-Err.event_fault c.in-Err.ensures.wrong
 
 pub end-requires : goal.end-requires
-end-requires g c = owner_ends c.args.self.now g.here c.requires c.args.tx c.args.reply.now c.in-Committed.commit
-    c.in-Committed.is (c.if-not-may_commit.ensures.0 refl)
+end-requires g c = owner_ends c.args.self.now.most_runs c.args.self.now g.here c.requires c.args.tx c.args.reply.now
+    c.in-Committed.commit
+    c.in-Committed.is ((c.if-not-may_commit.ensures c.args.self.now.most_runs).0 refl)
 
 pub returns-clause-takes : goal.returns-clause-takes
 returns-clause-takes g c =
-    takes_commit c.args.self.now g.here c.requires c.args.tx c.args.reply.now c.in-Committed.commit c.in-Committed.is
-    (c.if-not-may_commit.ensures.0 refl) _ c.deref-2.ensures.value _ c.in-Some.ensures.found.1
+    takes_commit c.args.self.now.most_runs c.args.self.now g.here c.requires c.args.tx c.args.reply.now
+    c.in-Committed.commit c.in-Committed.is
+    ((c.if-not-may_commit.ensures c.args.self.now.most_runs).0 refl) _ c.deref-2.ensures.value _
+    c.in-Some.ensures.found.1
     _ c.replay.new.committed c.in_default-replay.ensures.answers c.in_default-replay.ensures.left refl refl refl
     c.end.ensures.active c.end.ensures.locks c.forget_saved.ensures
+
+pub returns-then-not-may_commit-clause-event_fault : goal.returns-then-not-may_commit-clause-event_fault
+returns-then-not-may_commit-clause-event_fault g c = record {
+  form = λ may. false≢true ((c.if-not-may_commit.ensures c.args.self.now.most_runs).1 may);
+  first = λ early. tt;
+}

@@ -1,33 +1,61 @@
-use Rattle.std.proofs.Common.{refl, sym, ◌∙◌}
+use Rattle.std.proofs.Common.{◌≡◌, ℕ, Bool, refl, sym, ap, ◌∙◌}
 use Rattle.std.proofs.lemmas.Bool.{false≢true}
+use Rattle.am_record.specs.declared.step.Op.{Op}
+use Rattle.am_record.specs.declared.step.Reply.{Reply}
+use Rattle.am_serial.specs.Machine.{State, is_full, due_early}
 use Rattle.am_audit.proofs.RightReplies.{early_right, early_wrong, early_unasked}
 use Rattle.am_audit.proofs.EventSteps.{takes_still, refused_nothing}
 use Rattle.am_audit.proofs.Bodies.{counted, not_counted}
 use Rattle.am_audit.proofs.checker.Checker.operate.Goals as goal
 
+-- the refusal that is due by the runs that were counted
+same_due : (most_runs counted runs : ℕ) (reply : Reply) (full : Bool) (s : State) (t : ℕ) (op : Op) →
+    full ≡ is_full most_runs counted reply → counted ≡ runs →
+    due_early (is_full most_runs runs reply) s t op ≡ due_early full s t op
+same_due most_runs counted runs reply full s t op is same =
+    ap (λ b. due_early b s t op) (sym (is ∙ ap (λ n. is_full most_runs n reply) same))
+
+pub perform-requires : goal.perform-requires
+perform-requires g c = (
+  c.requires.0,
+  (
+    c.requires.1,
+    (
+      same_due c.args.self.now.most_runs c.args.self.now.runs g.here.state.runs c.args.reply
+          c.is_full-full.result
+          g.here.state c.args.tx c.args.op c.is_full-full.ensures c.requires.0.runs ∙ sym c.in_default.ensures,
+      (sym c.is_early.ensures ∙ c.if-is_early.false, refl),
+    ),
+  ),
+)
+
 pub refusal-requires : goal.refusal-requires
 refusal-requires g c = (
-  c.requires.0.runs,
-  (
-    counted c.args.self.now g.here c.requires.0 _ c.deref.ensures.value c.args.tx c.operation_count.result
-        c.operation_count.ensures.found,
-    not_counted c.args.self.now g.here c.requires.0 _ c.deref.ensures.value c.args.tx c.operation_count.result
-        c.operation_count.ensures.none,
-  ),
+  counted c.args.self.now g.here c.requires.0 _ c.deref.ensures.value c.args.tx c.operation_count.result
+      c.operation_count.ensures.found,
+  not_counted c.args.self.now g.here c.requires.0 _ c.deref.ensures.value c.args.tx c.operation_count.result
+      c.operation_count.ensures.none,
 )
 
 pub returns-then-not-is_refused-clause-event_fault : goal.returns-then-not-is_refused-clause-event_fault
 returns-then-not-is_refused-clause-event_fault g c =
-    early_wrong g.here.state c.args.tx c.args.op c.args.reply c.in-Some.why (sym c.in-Some.ensures)
+    early_wrong c.args.self.now.most_runs g.here.state c.args.tx c.args.op c.args.reply c.in-Some.why
+    (same_due c.args.self.now.most_runs c.args.self.now.runs g.here.state.runs c.args.reply c.is_full-full.result
+    g.here.state c.args.tx c.args.op c.is_full-full.ensures c.requires.0.runs ∙ sym c.in-Some.ensures)
     (λ e. false≢true (c.if-not-is_refused.ensures.1 e))
 
 pub returns-in-Some-clause-takes : goal.returns-in-Some-clause-takes
 returns-in-Some-clause-takes g c =
     let is = c.if-not-is_refused.ensures.0 refl in
-    takes_still _ g.here _ c.args.reply (refused_nothing c.args.tx c.args.op c.args.reply c.in-Some.why is)
-    (early_right g.here.state c.args.tx c.args.op c.args.reply c.in-Some.why (sym c.in-Some.ensures) is) c.requires.0
+    takes_still c.args.self.now.most_runs _ g.here _ c.args.reply
+    (refused_nothing c.args.tx c.args.op c.args.reply c.in-Some.why is)
+    (early_right c.args.self.now.most_runs g.here.state c.args.tx c.args.op c.args.reply c.in-Some.why
+    (same_due c.args.self.now.most_runs c.args.self.now.runs g.here.state.runs c.args.reply c.is_full-full.result
+    g.here.state c.args.tx c.args.op c.is_full-full.ensures c.requires.0.runs ∙ sym c.in-Some.ensures) is) c.requires.0
 
 pub returns-then-is_early-clause-event_fault : goal.returns-then-is_early-clause-event_fault
 returns-then-is_early-clause-event_fault g c =
-    early_unasked g.here.state c.args.tx c.args.op c.args.reply (sym c.in_default.ensures)
+    early_unasked c.args.self.now.most_runs g.here.state c.args.tx c.args.op c.args.reply
+    (same_due c.args.self.now.most_runs c.args.self.now.runs g.here.state.runs c.args.reply c.is_full-full.result
+    g.here.state c.args.tx c.args.op c.is_full-full.ensures c.requires.0.runs ∙ sym c.in_default.ensures)
     (sym c.is_early.ensures ∙ c.if-is_early.true)

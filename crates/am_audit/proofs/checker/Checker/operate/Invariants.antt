@@ -4,4 +4,4 @@ abbrev pub ghost-refusal : goal.ghost-refusal
 ghost-refusal g a = g.here.state
 
 abbrev pub ghost-perform : goal.ghost-perform
-ghost-perform g a = g.here
+ghost-perform g a = (a.self.now.most_runs, g.here)

@@ -1,24 +1,38 @@
-use Rattle.std.proofs.Common.{refl, sym, ap, ◌∙◌, ◌+◌, map}
+use Rattle.std.proofs.Common.{rules, arith, ◌<◌, refl, sym, ap, ◌∙◌, ◌+◌, map}
+use Rattle.std.specs.Prelude.{◌^◌}
 use Rattle.std.proofs.lemmas.Result.{on_ok_weaker}
 use Rattle.am_replies.specs.OwnAnswers.{listed, with_own}
 use Rattle.am_replies.proofs.Actives.{items_kept}
-use Rattle.am_audit.proofs.Performs.{takes_refused, takes_answer}
+use Rattle.am_audit.proofs.Performs.{takes_refused, takes_answer, made_fits}
 use Rattle.am_audit.proofs.checker.Checker.perform.Goals as goal
 
 pub returns-then-is_refusal-clause-takes : goal.returns-then-is_refusal-clause-takes
 returns-then-is_refusal-clause-takes g c =
     on_ok_weaker c.verdict.result
-    (λ right. takes_refused c.args.self.now _ g.here c.args.tx c.args.op c.args.reply c.requires.0
+    (λ right. takes_refused g.at.0 c.args.self.now _ g.at.1 c.args.tx c.args.op c.args.reply
+    c.requires.0
     (sym c.is_refusal.ensures ∙ c.if-is_refusal.true) right refl refl refl refl c.look-asked.ensures.same refl)
     c.verdict.ensures.right
 
 pub returns-clause-takes : goal.returns-clause-takes
 returns-clause-takes g c =
     let answered = sym c.is_refusal.ensures ∙ c.if-is_refusal.false in
-    takes_answer c.args.self.now g.here c.requires.0 c.args.tx c.args.op c.requires.1.1.0 _ c.args.reply c.args.position
+    takes_answer _ c.args.self.now g.at.1 c.requires.0 c.args.tx c.args.op c.requires.1.1.0 g.at.0 _
+    c.args.reply c.args.position
     _ c.requires.1.0 refl answered c.in_default.ensures.right
     refl refl (ap (λ n. c.args.self.now.runs + n) c.runs_made-made.ensures)
     (ap (map listed) (items_kept c.args.self.now.active c.keep_answer.new.all c.deref_mut.result.now
     c.deref_mut.ensures.value c.keep_answer.auto.all) ∙ c.in_ok-keep_answer.ensures ∙ ap (λ all. with_own c.args.tx
     (c.args.position, (c.args.op, c.args.reply)) (map listed all)) c.deref_mut.ensures.value)
     (c.ask-asked.ensures.granted (c.in_default.ensures.granted answered)) refl
+
+pub overflow_add-self : goal.overflow_add-self
+overflow_add-self g c =
+    let most : c.args.self.now.most_runs < 2 ^ 32 = search rules in
+    let few : c.args.self.now.runs < 2 ^ 32 = search rules in
+    let is = c.requires.1.1.1.1 in
+    let counted = c.requires.0.runs in
+    let fits = made_fits g.at.0 g.at.1.state.runs (2 ^ 32) g.at.1.state c.args.tx c.args.op c.args.reply
+    c.requires.1.1.0 (omega (arith, most, is)) (omega (arith, few, counted)) in
+    let made = c.runs_made-made.ensures in
+    omega (arith, fits, counted, made)

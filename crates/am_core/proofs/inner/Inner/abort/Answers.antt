@@ -16,9 +16,11 @@ returns-then-not-is_active-clause-says g c =
 pub take_back-requires-clause-can : goal.take_back-requires-clause-can
 take_back-requires-clause-can g c =
     let old = c.args.self.now in
-    let fit = subst (λ (t : Txs). IsFit (state_kept old.parts t old.wishes old.commits)) (sym c.seek.ensures.same)
+    let fit = subst (λ (t : Txs). IsFit (state_kept old.most_runs old.parts t old.wishes old.commits))
+    (sym c.seek.ensures.same)
     c.requires.fit in
-    can_abort old.parts c.seek.new.self old.wishes old.commits c.args.tx fit (sym c.is_active.ensures.active ∙
+    can_abort old.most_runs old.parts c.seek.new.self old.wishes old.commits c.args.tx fit
+    (sym c.is_active.ensures.active ∙
     c.if-not-is_active.false)
 
 pub take_back-requires-clause-room : goal.take_back-requires-clause-room
@@ -44,12 +46,15 @@ pub returns-clause-after : goal.returns-clause-after
 returns-clause-after g c =
     let old = c.args.self.now in
     let txs = c.seek.new.self in
-    let fit = subst (λ (t : Txs). IsFit (state_kept old.parts t old.wishes old.commits)) (sym c.seek.ensures.same)
+    let fit = subst (λ (t : Txs). IsFit (state_kept old.most_runs old.parts t old.wishes old.commits))
+    (sym c.seek.ensures.same)
     c.requires.fit in
-    let can = can_abort old.parts txs old.wishes old.commits c.args.tx fit (sym c.is_active.ensures.active ∙
+    let can = can_abort old.most_runs old.parts txs old.wishes old.commits c.args.tx fit
+    (sym c.is_active.ensures.active ∙
     c.if-not-is_active.false) in
     rw c.seek.ensures.same at
-    (aborted old.parts txs old.wishes old.commits c.take_back.new.parts c.take_back.new.txs c.end.new.self c.args.tx
+    (aborted old.most_runs old.parts txs old.wishes old.commits c.take_back.new.parts c.take_back.new.txs c.end.new.self
+    c.args.tx
     c.take_back.ensures.log c.end.ensures
     (c.taking_back_is_known.ensures.known _ old.parts.entries c.take_back.new.parts.entries c.requires.fit.rising can
     c.take_back.ensures.entries) c.take_back.ensures.runs)

@@ -21,7 +21,7 @@ returns-clause-says g c =
 pub returns-clause-after : goal.returns-clause-after
 returns-clause-after g c =
     let old = c.args.self.now in
-    committed old.parts old.txs old.wishes old.commits c.end.new.self c.args.tx (old.commits + 1)
+    committed old.most_runs old.parts old.txs old.wishes old.commits c.end.new.self c.args.tx (old.commits + 1)
     (c.end.ensures ∙ ap (λ (t : Txs). txs_after_end t c.args.tx) c.seek.ensures.same)
 
 pub overflow_add-self : goal.overflow_add-self

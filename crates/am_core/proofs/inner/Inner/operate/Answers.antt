@@ -1,6 +1,8 @@
-use Rattle.std.proofs.Common.{Option, List, sym, ap, subst, ◌∙◌}
+use Rattle.std.proofs.Common.{Bool, Option, List, sym, ap, subst, ◌∙◌}
+use Rattle.std.specs.Prelude.{nat_le, ◌||◌}
 use Rattle.am_record.specs.declared.lock.Lock.{Lock}
 use Rattle.am_index.specs.Entries.{find}
+use Rattle.am_parts.specs.Catalogs.{runs_in}
 use Rattle.am_record.specs.Marks.{since_mark}
 use Rattle.am_undo.specs.Notes.{CanTakeBack, NotesFit}
 use Rattle.am_tx.specs.declared.transaction.Transaction.{Transaction}
@@ -8,20 +10,33 @@ use Rattle.am_tx.specs.Active.{is_active_in, ops_in, log_in}
 use Rattle.am_tx.specs.Txs.{Txs, IsConsistent}
 use Rattle.am_effect.specs.Store.{with_wish}
 use Rattle.am_sound.specs.StoreState.{IsFit}
+use Rattle.am_core.specs.declared.inner.Inner.{Inner}
 use Rattle.am_core.specs.StoreContent.{state_kept}
 use Rattle.am_core.specs.Admission.{IsLockRefusal, IsLockGranted}
-use Rattle.am_core.proofs.Operations.{cleared, says_first, says_lock, wants_lock, says_room, wants_memory, idle}
+use Rattle.am_core.proofs.Operations.{cleared, has_number, says_first, says_lock, wants_lock, says_room, wants_memory}
+use Rattle.am_core.proofs.Operations.{idle}
 use Rattle.am_core.proofs.Operations.{says_done, after_done, active_then, few_then}
 use Rattle.am_core.proofs.TransactionEnds.{can_back, fits_abort}
 use Rattle.am_core.proofs.inner.Inner.operate.Goals as goal
 
 -- The table in which the transaction was sought is the old one, and all calls after that speak of it.
 
+-- whether no further run may be made
+abbrev all_made : {I : Type 0} → Inner I → Bool
+all_made k = nat_le k.most_runs k.parts.runs || nat_le 65535 (runs_in k.parts.entries)
+
+pub work-requires-clause-room : goal.work-requires-clause-room
+work-requires-clause-room g c =
+    let old = c.args.self.now in
+    let txs = c.seek.new.self in
+    has_number (is_active_in txs.active c.args.tx) (ops_in txs.active c.args.tx) old.most_runs old.parts.runs
+    (runs_in old.parts.entries) c.args.op c.requires.runs (sym c.in_default.is ∙ c.refusal.ensures)
+
 pub returns-in-Some-clause-says : goal.returns-in-Some-clause-says
 returns-in-Some-clause-says g c =
     let old = c.args.self.now in
     rw c.seek.ensures.same at
-    (says_first old.parts c.seek.new.self old.wishes old.commits c.args.tx c.args.op c.in-Some.why
+    (says_first old.most_runs old.parts c.seek.new.self old.wishes old.commits c.args.tx c.args.op c.in-Some.why
     (sym c.in-Some.is ∙ c.refusal.ensures))
 
 pub returns-in-Err-clause-says : goal.returns-in-Err-clause-says
@@ -29,7 +44,7 @@ returns-in-Err-clause-says g c =
     let old = c.args.self.now in
     let txs = c.seek.new.self in
     rw c.seek.ensures.same at
-    (says_lock old.parts txs old.wishes old.commits c.args.tx c.args.op c.in-Err.why
+    (says_lock old.most_runs old.parts txs old.wishes old.commits c.args.tx c.args.op c.in-Err.why
     (sym c.in_default.is ∙ c.refusal.ensures)
     (subst (λ (a : Option Lock). IsLockRefusal txs c.args.tx a c.in-Err.why) c.asked_lock.ensures
     c.in-Err.ensures.refused))
@@ -39,7 +54,7 @@ returns-in-Err-clause-memory g c = λ is.
     let old = c.args.self.now in
     let txs = c.seek.new.self in
     rw c.seek.ensures.same at
-    (wants_lock old.parts txs old.wishes old.commits c.args.tx c.args.op c.in-Err.why
+    (wants_lock old.most_runs old.parts txs old.wishes old.commits c.args.tx c.args.op c.in-Err.why
     (sym c.in_default.is ∙ c.refusal.ensures)
     (subst (λ (a : Option Lock). IsLockRefusal txs c.args.tx a c.in-Err.why) c.asked_lock.ensures
     c.in-Err.ensures.refused) is)
@@ -48,13 +63,14 @@ pub work-requires-clause-back : goal.work-requires-clause-back
 work-requires-clause-back g c =
     let old = c.args.self.now in
     let txs = c.seek.new.self in
-    let clear = cleared (is_active_in txs.active c.args.tx) (ops_in txs.active c.args.tx) old.parts.runs c.args.op
+    let clear = cleared (is_active_in txs.active c.args.tx) (ops_in txs.active c.args.tx) (all_made old) c.args.op
     (sym c.in_default.is ∙ c.refusal.ensures) in
-    let fit = subst (λ (t : Txs). IsFit (state_kept old.parts t old.wishes old.commits)) (sym c.seek.ensures.same)
+    let fit = subst (λ (t : Txs). IsFit (state_kept old.most_runs old.parts t old.wishes old.commits))
+    (sym c.seek.ensures.same)
     c.requires.fit in
     subst (λ (xs : List Transaction). CanTakeBack (since_mark (log_in xs c.args.tx).marks (log_in xs c.args.tx).notes)
     (find old.parts.entries)) (sym c.in-Ok.ensures.granted.locks.active)
-    (can_back old.parts txs old.wishes old.commits c.args.tx fit clear.is_active)
+    (can_back old.most_runs old.parts txs old.wishes old.commits c.args.tx fit clear.is_active)
 
 pub work-requires-clause-noted : goal.work-requires-clause-noted
 work-requires-clause-noted g c =
@@ -67,7 +83,7 @@ pub cut-requires-clause-active : goal.cut-requires-clause-active
 cut-requires-clause-active g c =
     let old = c.args.self.now in
     let txs = c.seek.new.self in
-    let clear = cleared (is_active_in txs.active c.args.tx) (ops_in txs.active c.args.tx) old.parts.runs c.args.op
+    let clear = cleared (is_active_in txs.active c.args.tx) (ops_in txs.active c.args.tx) (all_made old) c.args.op
     (sym c.in_default.is ∙ c.refusal.ensures) in
     let stays = c.in_default-work.ensures.err in
     active_then txs c.ask.new.txs c.work.new.txs c.args.tx stays.log c.in-Ok.ensures.granted.locks.active stays.written
@@ -80,7 +96,7 @@ returns-in_default-work-clause-says g c =
     let grant = subst (λ (a : Option Lock). IsLockGranted txs c.args.tx a c.ask.new.txs) c.asked_lock.ensures
     c.in-Ok.ensures.granted in
     rw c.seek.ensures.same at
-    (says_room old.parts txs old.wishes old.commits c.args.tx c.args.op c.work.new.parts
+    (says_room old.most_runs old.parts txs old.wishes old.commits c.args.tx c.args.op c.work.new.parts
     (log_in c.ask.new.txs.active c.args.tx) (sym c.in_default.is ∙ c.refusal.ensures) grant.due
     c.in_default-work.ensures.memory)
 
@@ -91,7 +107,8 @@ returns-in_default-work-clause-after g c =
     let grant = subst (λ (a : Option Lock). IsLockGranted txs c.args.tx a c.ask.new.txs) c.asked_lock.ensures
     c.in-Ok.ensures.granted in
     rw c.seek.ensures.same at
-    (idle old.parts txs old.wishes old.commits c.args.tx c.args.op c.ask.new.txs c.work.new.txs c.cut.new.self
+    (idle old.most_runs old.parts txs old.wishes old.commits c.args.tx c.args.op c.ask.new.txs c.work.new.txs
+    c.cut.new.self
     c.work.new.parts c.in-Ok.held (subst IsConsistent (sym c.seek.ensures.same) c.seek.ensures.consistent) grant.locks
     c.in_default-work.ensures.err c.in-Ok.ensures.held c.cut.ensures)
 
@@ -99,7 +116,7 @@ pub returns-in_default-work-clause-memory : goal.returns-in_default-work-clause-
 returns-in_default-work-clause-memory g c = λ is.
     let old = c.args.self.now in
     rw c.seek.ensures.same at
-    (wants_memory old.parts c.seek.new.self old.wishes old.commits c.args.tx c.args.op
+    (wants_memory old.most_runs old.parts c.seek.new.self old.wishes old.commits c.args.tx c.args.op
     (log_in c.ask.new.txs.active c.args.tx)
     (ap (λ (xs : List Transaction). log_in xs c.args.tx) c.in-Ok.ensures.granted.locks.active)
     c.in_default-work.ensures.memory)
@@ -108,7 +125,7 @@ pub count_op-requires-clause-active : goal.count_op-requires-clause-active
 count_op-requires-clause-active g c =
     let old = c.args.self.now in
     let txs = c.seek.new.self in
-    let clear = cleared (is_active_in txs.active c.args.tx) (ops_in txs.active c.args.tx) old.parts.runs c.args.op
+    let clear = cleared (is_active_in txs.active c.args.tx) (ops_in txs.active c.args.tx) (all_made old) c.args.op
     (sym c.in_default.is ∙ c.refusal.ensures) in
     let works = c.in-Ok-work.ensures.done in
     active_then txs c.ask.new.txs c.work.new.txs c.args.tx works.log c.in-Ok.ensures.granted.locks.active works.written
@@ -118,7 +135,7 @@ pub count_op-requires-clause-few : goal.count_op-requires-clause-few
 count_op-requires-clause-few g c =
     let old = c.args.self.now in
     let txs = c.seek.new.self in
-    let clear = cleared (is_active_in txs.active c.args.tx) (ops_in txs.active c.args.tx) old.parts.runs c.args.op
+    let clear = cleared (is_active_in txs.active c.args.tx) (ops_in txs.active c.args.tx) (all_made old) c.args.op
     (sym c.in_default.is ∙ c.refusal.ensures) in
     let works = c.in-Ok-work.ensures.done in
     few_then txs c.ask.new.txs c.work.new.txs c.args.tx works.log c.in-Ok.ensures.granted.locks.active works.written
@@ -131,7 +148,8 @@ returns-clause-says g c =
     let grant = subst (λ (a : Option Lock). IsLockGranted txs c.args.tx a c.ask.new.txs) c.asked_lock.ensures
     c.in-Ok.ensures.granted in
     rw c.seek.ensures.same at
-    (says_done old.parts txs old.wishes old.commits c.args.tx c.args.op c.ask.new.txs c.work.new.txs c.work.new.parts
+    (says_done old.most_runs old.parts txs old.wishes old.commits c.args.tx c.args.op c.ask.new.txs c.work.new.txs
+    c.work.new.parts
     c.in-Ok-work.reply (sym c.in_default.is ∙ c.refusal.ensures) grant c.in-Ok-work.ensures.done)
 
 pub returns-clause-after : goal.returns-clause-after
@@ -142,7 +160,7 @@ returns-clause-after g c =
     c.in-Ok.ensures.granted in
     let wish = c.wish_for.ensures ∙ ap (with_wish old.wishes) c.wish_of-wish.ensures in
     rw c.seek.ensures.same at
-    (after_done old.parts txs old.wishes old.commits c.args.tx c.args.op c.ask.new.txs c.work.new.txs
+    (after_done old.most_runs old.parts txs old.wishes old.commits c.args.tx c.args.op c.ask.new.txs c.work.new.txs
     c.count_op.new.self c.work.new.parts c.wish_for.new.wishes c.in-Ok-work.reply
     (subst IsConsistent (sym c.seek.ensures.same) c.seek.ensures.consistent) grant.locks c.in-Ok-work.ensures.done
     c.count_op.ensures wish)

@@ -11,8 +11,12 @@ step_there-requires-clause-fit g c = c.steps_lift.ensures.fit c.self.invariant.0
     (inner_state c.self.inside.inner.value) c.self.invariant.0.at
 
 pub step_there-requires-clause-few : goal.step_there-requires-clause-few
-step_there-requires-clause-few g c = let old = c.self.inside.inner.value in few_commits old.parts old.txs old.wishes
+step_there-requires-clause-few g c = let old = c.self.inside.inner.value in few_commits old.most_runs old.parts old.txs
+    old.wishes
     old.commits c.self.invariant.0
+
+pub step_there-requires-clause-runs : goal.step_there-requires-clause-runs
+step_there-requires-clause-runs g c = c.self.invariant.0.few_runs
 
 pub invariant_of-self : goal.invariant_of-self
 invariant_of-self g c =

@@ -1,6 +1,0 @@
-use Rattle.std.proofs.Common.{rules}
-use Rattle.am_core.proofs.StoreSteps.{stands_opened}
-use Rattle.am_core.proofs.store.Store.open.Goals as goal
-
-pub returns-clause-stands : goal.returns-clause-stands
-returns-clause-stands g c = stands_opened _ c.steps_lift.ensures.opened c.steps_lift.ensures.sound (search rules)

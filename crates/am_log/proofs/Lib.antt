@@ -1,0 +1,5 @@
+pub mod Filters
+pub mod Floors
+pub mod Once
+pub mod Snapshots
+pub mod Standing

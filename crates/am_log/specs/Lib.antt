@@ -1,0 +1,4 @@
+pub mod History
+pub mod LogState
+pub mod Readers
+pub mod Writers

@@ -1,0 +1,5 @@
+pub mod Given
+pub mod Kept
+pub mod ReadOnly
+pub mod Serial
+pub mod States

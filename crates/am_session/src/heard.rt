@@ -1,0 +1,48 @@
+//! What a session heard.
+
+ghost use Rattle.std.specs.Prelude.{◌≡◌};
+ghost use Rattle.am_stream.specs.LineAnswers.{seen};
+ghost use Rattle.am_session.specs.Heard.{MayHear, is_quit_heard};
+
+use am_dialogue::{ParsedLine, parse};
+use am_stream::LineKind;
+use std::alloc::Global;
+
+/// What a session heard.
+#[derive(Drop)]
+pub enum Heard {
+    /// A line.
+    Line(ParsedLine),
+    /// A line that came too late: the transaction has lapsed. What it says doesn't count.
+    Late,
+}
+
+/// Reads a line that was cut from the input, unless it came too late. Only the records that it brings take memory.
+pub(crate) fn hear(alloc: Global, is_late: bool, kind: LineKind, line: &[u8]) -> Heard
+    ensures { MayHear is_late (seen kind line.now) result }
+{
+    if is_late {
+        return Heard::Late;
+    }
+    Heard::Line(parse(alloc, kind, line))
+}
+
+impl Heard {
+    /// Whether the session ends here.
+    pub(crate) fn is_quit(&self) -> bool
+        ensures { result ≡ is_quit_heard self.now }
+    {
+        match self {
+            Heard::Line(parsed) => parsed.is_quit(),
+            Heard::Late => false,
+        }
+    }
+
+    /// Whether it would hold.
+    pub(crate) fn is_hold(&self) -> bool {
+        match self {
+            Heard::Line(parsed) => parsed.is_hold(),
+            Heard::Late => false,
+        }
+    }
+}
