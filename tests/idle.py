@@ -131,8 +131,9 @@ def half_lines() -> None:
     for byte in b"GET a.........":
         slow.socket.sendall(bytes([byte]))
         time.sleep(0.2)
-        is_free = is_free or other.ask("INS a 1") == "OK"
-    wanted(f"the lock behind {time.monotonic() - begun:.1f} s", is_free, True)
+        # (who asks on keeps its own transaction)
+        is_free = other.ask("REP a 2" if is_free else "INS a 1") == "OK"
+    wanted(f"the lock after {time.monotonic() - begun:.1f} s", is_free, True)
     slow.socket.sendall(b"\nSEEN\n")
     wanted("the line, and the next one", [slow.reply(), slow.reply().split()[0]], ["ERR IDLE", "SEEN"])
     wanted("the other's end", other.ask("COMMIT"), "COMMITTED 1")
@@ -232,7 +233,8 @@ def clients() -> None:
             fail("a line that came too late was answered")
         except tiuvrokk.Lapsed:
             wanted("its transaction", tx.is_active, False)
-        wanted("a merge", client.merge(), None)
+        # (a worker may have taken the range that was read)
+        wanted("a merge", client.merge() in (0, None), True)
     shell = subprocess.Popen([AMCLI, "--port", str(server.port)], stdin=subprocess.PIPE, stdout=subprocess.PIPE, stderr=subprocess.PIPE, text=True)
     if shell.stdin:
         shell.stdin.write("BEGIN\nINS c 3\n")
@@ -241,7 +243,7 @@ def clients() -> None:
         shell.stdin.write("COMMIT\nGET c\n.stats\n")
     out, said = shell.communicate(timeout=LIMIT)
     wanted("the shell's answers", [line.split()[0] for line in out.splitlines()], ["BEGUN", "OK", "ERR", "NONE", "session"])
-    wanted("and what it says", said, "amcli: no line came for too long: the transaction was aborted, and the line did nothing\n")
+    wanted("and what it says", said, "amcli: line 3: no line came for too long: the transaction was aborted, and the line did nothing\n")
     stopped(server)
 
 

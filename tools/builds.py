@@ -5,6 +5,7 @@ refused, any_kit.py goes on. That file may be missing."""
 import fcntl
 import os
 import sys
+import tempfile
 from contextlib import contextmanager
 from typing import Iterator, List
 
@@ -22,8 +23,10 @@ REFUSED, UNKNOWN, WRONG = 10, 11, 12
 def build(crates: List[str]) -> int:
     """Builds crates with what is below, and gives the status; what was refused has been told."""
     if os.path.isfile(KNOWN_KIT):
-        with children.child([sys.executable, KNOWN_KIT, *crates]) as running:
-            status = running.wait()
+        # (what the kit makes meanwhile, and would leave where it is ended, is let go with its folder)
+        with tempfile.TemporaryDirectory(prefix="tiuvrokk-") as meanwhile:
+            with children.child([sys.executable, KNOWN_KIT, *crates], env={**os.environ, "TMPDIR": meanwhile}) as running:
+                status = running.wait()
         if status in (0, REFUSED):
             return 1 if status else 0
         if status != UNKNOWN:

@@ -40,7 +40,7 @@ TABLE: List[Tuple[str, str, str]] = [
         "the store to itself, for n milliseconds at most, from 1 to 60,000",
         "OK, or ERR HELD s, s being a session that holds, or has a transaction that didn't end in so long",
     ),
-    ("QUIT", "the session's end", "BYE; bytes behind it are not answered"),
+    ("QUIT", "the session's end", "BYE; bytes after it are not answered"),
 ]
 VERBS: List[str] = [line.partition(" ")[0] for line, _, _ in TABLE]
 
