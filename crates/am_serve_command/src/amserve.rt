@@ -194,7 +194,8 @@ fn listen<'a>(alloc: Global) -> Result<Command<'a>, AllocError>
         ))
 }
 
-/// `listen --port P [--sessions N] [--workers W] [--trace FILE] [--stop]`.
+/// `listen --port P [--sessions N] [--workers W] [--trace FILE] [--stop]`, in a frame of its own too.
+#[inline(never)]
 fn listen_common<'a>(alloc: Global) -> Result<Command<'a>, AllocError>
     ensures { IfOk result (λ command. IsCommand common_app command) }
 {
