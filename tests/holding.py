@@ -252,8 +252,11 @@ class Beside:
 
 
 def read(client: Client, dice: random.Random) -> None:
-    """A key is read."""
-    begun, value, committed = client.ask_all(["BEGIN", f"GET k{dice.randrange(20_000):06}", "COMMIT"])
+    """A key is read. On a machine with much else to do one of a crowd may wait for its second in vain, and tries again."""
+    for _ in range(3):
+        begun, value, committed = client.ask_all(["BEGIN", f"GET k{dice.randrange(20_000):06}", "COMMIT"])
+        if begun != "ERR TXS":
+            break
     wanted("a reader", (begun.split()[0], value == "NONE" or value.startswith("VAL "), committed.split()[0]), ("BEGUN", True, "COMMITTED"))
 
 
