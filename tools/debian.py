@@ -103,7 +103,7 @@ def development_package(library: str, rest: List[Entry]) -> Package:
 
 def python_package(library: str) -> Package:
     entries = layout.package_entries("python/tiuvrokk", PYTHON)
-    # By which pip and importlib.metadata know the package, and pip that it is dpkg's to remove.
+    # By these Python and pip know the package, and pip that it is dpkg's to remove.
     about = {"METADATA": building.metadata(), "INSTALLER": b"debian\n"}
     entries += [Entry(f"{PYTHON}/{building.information_folder()}/{name}", data) for name, data in about.items()]
     entries.append(Entry("share/doc/python3-tiuvrokk/examples/embed.py", layout.bytes_of("examples/embed.py")))
