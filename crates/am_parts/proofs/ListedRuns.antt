@@ -1,9 +1,10 @@
 -- The runs that are listed, after each change.
 use Rattle.std.proofs.Common.{◌≡◌, ◌≢◌, ℕ, zero, suc, ◌+◌, ◌-◌, ◌<◌, ◌≤◌, Bool, true, false, cond, List, [], ◌∷◌, ◌++◌}
 use Rattle.std.proofs.Common.{length, get_or, set, take, drop, refl, sym, ap, ◌∙◌, subst, ⊎_elim, arith}
-use Rattle.std.specs.Prelude.{IsSome, ◌==◌}
+use Rattle.std.specs.Prelude.{IsSome, Some, slice_get, ◌==◌}
 use Rattle.std.proofs.lemmas.Bool.{or_left, or_right, or_cases, cases_eq, cases_lt, eqb-true, eq-eqb, false≢true}
 use Rattle.std.proofs.lemmas.List.{length-map}
+use Rattle.std.proofs.lemmas.Option.{get_or_from_slice_get, none-some}
 use Rattle.std.specs.List.{AllByRecursion, insert, remove}
 use Rattle.am_record.specs.OrderedKey.{OrderedKey}
 use Rattle.am_record.specs.Plain.{Records}
@@ -31,6 +32,15 @@ one_at [] i d lt = absurd (omega arith)
 one_at (r ∷ rs) zero d lt = or_left (r.part == r.part) (is_one_of (parts_of rs) r.part) (eq-eqb r.part r.part refl)
 one_at (r ∷ rs) (suc i) d lt = or_right (r.part == (get_or rs i d).part) (is_one_of (parts_of rs) (get_or rs i d).part)
     (one_at rs i d (omega arith))
+
+-- the last run's partition is one of these
+pub last_stands : (runs : List OpenRun) (r : OpenRun) → slice_get runs (length runs - 1) ≡ Some r →
+    is_one_of (0 ∷ parts_of runs) r.part ≡ true
+last_stands [] r is = absurd (none-some r is)
+last_stands (q ∷ runs) r is = let all = q ∷ runs in let at = length all - 1 in
+    or_right (0 == r.part) (is_one_of (parts_of all) r.part)
+    (subst (λ (o : OpenRun). is_one_of (parts_of all) o.part ≡ true) (get_or_from_slice_get all at r r is)
+    (one_at all at r (omega arith)))
 
 pub not_one : (p : ℕ) (rs : List OpenRun) → AllByRecursion (λ (r : OpenRun). r.part ≢ p) rs →
     is_one_of (parts_of rs) p ≡ true → ⊥

@@ -1,6 +1,6 @@
 //! The runs that have entries left, and how many entries there are.
 
-ghost use Rattle.std.specs.Prelude.{◌≡◌, ◌+◌, ◌<◌, ◌≤◌, ◌++◌, ◌^◌, ℕ, List, [], length, take, drop, false};
+ghost use Rattle.std.specs.Prelude.{◌≡◌, ◌+◌, ◌<◌, ◌≤◌, ◌++◌, ◌^◌, ℕ, List, [], ◌∷◌, length, take, drop, true, false};
 ghost use Rattle.std.specs.Prelude.{not, is_some, IsSome, IsTrue, IfSome, IfNone, IfOk, IfErr, OnOk, OnErr, vec_len};
 ghost use Rattle.std.specs.Prelude.{◌↔◌};
 ghost use Rattle.std.specs.Prelude.{vec_capacity};
@@ -13,7 +13,7 @@ ghost use Rattle.am_index.specs.Content.{live_value};
 ghost use Rattle.am_index.specs.Runs.{run_entries};
 ghost use Rattle.am_parts.specs.GoingHome.{IsHome};
 ghost use Rattle.am_parts.specs.Catalogs.{parts_of, PartsRise, IsRunAt, IsGapAt, HasCounted, HasMore, IsNext};
-ghost use Rattle.am_parts.specs.Catalogs.{runs_in};
+ghost use Rattle.am_parts.specs.Catalogs.{runs_in, is_one_of};
 
 use crate::figures::Figures;
 use am_record::NoMemory;
@@ -83,7 +83,8 @@ impl Catalog {
     /// The last run that has entries left, 0 where none has.
     pub(crate) fn last_run(&self) -> u32
         requires { PartsRise (parts_of self.now.runs.items) }
-        ensures { AllByRecursion (λ r. r.part ≤ result) self.now.runs.items }
+        ensures greatest { AllByRecursion (λ r. r.part ≤ result) self.now.runs.items }
+        ensures stands { is_one_of (0 ∷ parts_of self.now.runs.items) result ≡ true }
     {
         match self.runs.last() {
             Some(run) => run.part,

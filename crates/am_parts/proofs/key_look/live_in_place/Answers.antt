@@ -10,7 +10,7 @@ returns-then-last-lt-PLACES-clause-live g c =
 pub returns-then-last-lt-PLACES-clause-absent : goal.returns-then-last-lt-PLACES-clause-absent
 returns-then-last-lt-PLACES-clause-absent g c =
     found_none c.requires.sound c.args.place c.args.key c.find.ensures.found c.live_at.result
-    (λ run it. of_first_place c.requires.counted.counted c.last_run-last.ensures c.if-last-lt-PLACES.true it
+    (λ run it. of_first_place c.requires.counted.counted c.last_run-last.ensures.greatest c.if-last-lt-PLACES.true it
     (c.requires.known run it)) c.live_at.ensures.none
 
 pub returns-then-is_some-clause-live : goal.returns-then-is_some-clause-live
