@@ -2,7 +2,7 @@
 //! scan behind it. Built and run by bench/batches, each way in a process of its own: batches WAY.
 //!
 //! It writes a line for each batch: the records that were there before, seconds to the first answer, microseconds of a read and
-//! of a scan of 100, the middle ones of some.
+//! of a scan of 100, the middle ones of some; and a last line, whose last figure is a scan where a hundred came before it.
 
 mod ways;
 
@@ -19,6 +19,9 @@ const BATCHES: usize = 92;
 const READS: usize = 101;
 const SCANS: usize = 21;
 const ROWS: usize = 100;
+// So many keys at one place are scanned so often.
+const HOT: usize = 6_000;
+const HOT_SCANS: usize = 100;
 
 /// Something that takes batches and answers questions.
 trait Way {
@@ -30,6 +33,9 @@ trait Way {
 
     /// How many records are read from the key on, 100 at most.
     fn scan(&mut self, lo: &Text) -> usize;
+
+    /// Merges what was read, where that is a matter of its own.
+    fn merge(&mut self) {}
 }
 
 const LAST: Text = [0x7e; 16];
@@ -53,6 +59,10 @@ impl Way for Store {
 
     fn scan(&mut self, lo: &Text) -> usize {
         Store::scan(self, lo, &LAST, ROWS)
+    }
+
+    fn merge(&mut self) {
+        Store::merge(self);
     }
 }
 
@@ -299,6 +309,17 @@ fn measure(mut way: impl Way) {
         });
         println!("{} {first:.6} {read:.2} {scan:.2}", at * BATCH);
     }
+    // What is asked for again is merged: scans at one place, the hot one, and at last one there.
+    keys.sort_unstable();
+    let hot = &keys[keys.len() / 2..keys.len() / 2 + HOT];
+    for _ in 0..HOT_SCANS {
+        black_box(way.scan(&hot[numbers.below(HOT)]));
+        way.merge();
+    }
+    let scan = middle(SCANS, || {
+        black_box(way.scan(&hot[numbers.below(HOT)]));
+    });
+    println!("hot 0 0 {scan:.2}");
 }
 
 fn main() {

@@ -1,5 +1,5 @@
-//! Queries over fresh data, one way after another on the same records: Tiuvrokk, which is merged by the queries, an index
-//! that is complete before the first of them, and no index. Built and run by bench/fresh_data.
+//! Queries over fresh data, one way after another on the same records: Tiuvrokk, which is merged by the queries, an array
+//! that the queries crack, an index that is complete before the first of them, and no index. Built and run by bench/fresh_data.
 //!
 //! It writes a file for each way, of lines "query, seconds of it, seconds from the data's coming to its answer", and to
 //! standard output what they come to.
@@ -93,6 +93,66 @@ struct NoIndex<'a>(&'a [Record]);
 impl Way for NoIndex<'_> {
     fn query(&mut self, lo: &Text, hi: &Text) -> usize {
         let mut rows: Vec<Record> = self.0.iter().filter(|record| *lo <= record.0 && record.0 <= *hi).copied().collect();
+        rows.sort_unstable();
+        found(&rows)
+    }
+}
+
+// ---- an array that each query cracks
+
+/// The records, parted in place at the ends of the ranges that were asked for (database cracking: Idreos, Kersten and
+/// Manegold, CIDR 2007). The pieces are told by a map from a key to the place of the first record that isn't below it.
+struct Cracked {
+    records: Vec<Record>,
+    cuts: BTreeMap<u128, usize>,
+}
+
+fn number(key: &Text) -> u128 {
+    u128::from_be_bytes(*key)
+}
+
+impl Cracked {
+    fn of(records: &[Record]) -> Cracked {
+        Cracked { records: records.to_vec(), cuts: BTreeMap::from([(0, 0), (u128::MAX, records.len())]) }
+    }
+
+    /// The place of the first record that isn't below the key. The piece around it is parted there.
+    fn crack(&mut self, key: u128) -> usize {
+        if let Some(place) = self.cuts.get(&key) {
+            return *place;
+        }
+        let from = *self.cuts.range(..key).next_back().unwrap().1;
+        let to = *self.cuts.range(key..).next().unwrap().1;
+        let place = from + part(&mut self.records[from..to], key);
+        self.cuts.insert(key, place);
+        place
+    }
+}
+
+/// Brings the records below the key to the front (Hoare's partition), and tells how many these are.
+fn part(piece: &mut [Record], key: u128) -> usize {
+    let (mut from, mut to) = (0, piece.len());
+    loop {
+        while from < to && number(&piece[from].0) < key {
+            from += 1;
+        }
+        while from < to && number(&piece[to - 1].0) >= key {
+            to -= 1;
+        }
+        if from == to {
+            return from;
+        }
+        to -= 1;
+        piece.swap(from, to);
+        from += 1;
+    }
+}
+
+impl Way for Cracked {
+    fn query(&mut self, lo: &Text, hi: &Text) -> usize {
+        let from = self.crack(number(lo));
+        let to = self.crack(number(hi) + 1);
+        let mut rows = self.records[from..to].to_vec();
         rows.sort_unstable();
         found(&rows)
     }
@@ -203,6 +263,9 @@ fn main() {
     let (sorted, map) = measure(|| map_of_sorted(&records), &ranges);
     tell(&folder, "sorted", "std's map, built of all, sorted", &sorted);
     drop(map);
+    let (cracked, array) = measure(|| Cracked::of(&records), &ranges);
+    tell(&folder, "cracked", "an array, cracked by queries", &cracked);
+    drop(array);
     let (sqlite, _) = measure(|| Table::load(&records), &ranges);
     tell(&folder, "sqlite", "SQLite :memory:, then CREATE INDEX", &sqlite);
     let (without, _) = measure(|| NoIndex(&records), &ranges[..QUERIES_WITHOUT]);
@@ -215,5 +278,5 @@ fn main() {
     let as_whole = about(&merged.queries, HOT_QUERIES * 4 / 5);
     println!("a hot query at last: {:.1} us; of a store that was merged whole: {:.1} us, so {:.2} times", micros(hot), micros(as_whole), hot.as_secs_f64() / as_whole.as_secs_f64());
     let share = |other: &Figures| ours.first.as_secs_f64() / other.first.as_secs_f64();
-    println!("to the first answer: {:.2} of one by one, {:.2} of sorted and built, {:.2} of SQLite", share(&one_by_one), share(&sorted), share(&sqlite));
+    println!("to the first answer: {:.2} of one by one, {:.2} of sorted and built, {:.2} of SQLite, {:.2} of cracked", share(&one_by_one), share(&sorted), share(&sqlite), share(&cracked));
 }

@@ -6,14 +6,14 @@ _tiuvrokk_words() {
     amserve)
         case ${COMP_WORDS[1]-} in
         alone) echo '--auto --help' ;;
-        listen) echo '--port --sessions --workers --hold --trace --stop --stay --grace --idle --idle-transaction --socket --log --help' ;;
+        listen) echo '--port --socket --sessions --workers --trace --stop --hold --stay --grace --idle --idle-transaction --log --help' ;;
         *) echo 'alone listen help --help --version' ;;
         esac
         ;;
     amaudit) echo '--records --open --help --version' ;;
-    amload) echo '--run --skip-empty --skip --escape --key-bytes --value-bytes --port --wait --hold --tries --help --version' ;;
-    amdump) echo '--escape --port --wait --hold --tries --help --version' ;;
-    amcli) echo '--port --wait --store --escape --raw --strict --history --help --version' ;;
+    amload) echo '--run --skip-empty --skip --escape --key-bytes --value-bytes --port --socket --wait --hold --tries --help --version' ;;
+    amdump) echo '--escape --port --socket --wait --hold --tries --help --version' ;;
+    amcli) echo '--port --socket --wait --store --escape --raw --strict --history --help --version' ;;
     amdraw) echo '--text --help --version' ;;
     amreplica) echo '--port --log --store --reads --limit --snapshot --trace --stats --cacert --cert --key --user --help --version' ;;
     esac
@@ -25,7 +25,7 @@ _tiuvrokk() {
     case $before in
     --port | --sessions | --workers | --hold | --tries | --grace | --idle | --idle-transaction | --auto | --run | --key-bytes | --value-bytes | --wait | --log | --limit | --snapshot | --user) return ;;
     --reads) mapfile -t COMPREPLY < <(compgen -W 'log local' -- "$word") ;;
-    --trace | --store | --history | --cacert | --cert | --key) mapfile -t COMPREPLY < <(compgen -f -- "$word") ;;
+    --trace | --socket | --store | --history | --cacert | --cert | --key) mapfile -t COMPREPLY < <(compgen -f -- "$word") ;;
     *)
         if [[ $word == -* || ($program == amserve && $COMP_CWORD == 1) ]]; then
             mapfile -t COMPREPLY < <(compgen -W "$(_tiuvrokk_words "$program")" -- "$word")

@@ -139,6 +139,21 @@ def back_and_forth(folder: str) -> None:
     one.closed()
 
 
+def by_socket(folder: str) -> None:
+    """A server that has a socket alone."""
+    path = os.path.join(folder, "socket")
+    words = [built("am_serve_listen"), "listen", "--socket", path, "--sessions", "3", "--workers", "0"]
+    with subprocess.Popen(words, stdin=subprocess.DEVNULL, stdout=subprocess.PIPE, text=True) as server:
+        assert server.stdout
+        wanted("where it listens", server.stdout.readline(), f"LISTEN {path}\n")
+        wanted("a load", run(AMLOAD, "--socket", path, text="ant\tsix\nbee\tsix\n"), (0, "", ""))
+        wanted("a dump", run(AMDUMP, "--socket", path), (0, "ant\tsix\nbee\tsix\n", ""))
+        wanted("a shell", run(AMCLI, "--socket", path, "--raw", text="GET ant\n"), (0, "VAL six\n", ""))
+    wanted("its status", server.returncode, 0)
+    wanted("a server that isn't there", run(AMDUMP, "--socket", path)[0], 5)
+    wanted("both", run(AMDUMP, "--socket", path, "--port", "1")[0], 2)
+
+
 def refused_dumps(server: Server) -> None:
     """A lock in the way, an output that is full, a reader that goes away, no server."""
     other = Client(server.port)
@@ -411,6 +426,7 @@ def pictures(folder: str) -> None:
             wanted("a row of deleted records", found, row)
     status, picture, said = run(AMDRAW, text=TRACE)
     wanted("a picture", (status, said), (0, ""))
+    wanted("the same in version 3", run(AMDRAW, text=TRACE.replace("TRACE 2", "TRACE 3", 1)), (0, picture, ""))
     told = [it.text or "" for it in ElementTree.fromstring(picture).iter("{http://www.w3.org/2000/svg}text")]
     for text in ("6 records in 2 runs, keys from left to right", "67 % left", "33 % left", "busy", "abort", "50 %"):
         if text not in told:
@@ -423,6 +439,7 @@ def pictures(folder: str) -> None:
     bad = run(AMDRAW, text="TRACE 2\nBEGIN | BEGUN 1\nFOO\n")
     wanted("a bad line", bad, (3, "", "amdraw: line 3: it is none of a trace\n"))
     wanted("no run", run(AMDRAW, text="foo\n")[0], 3)
+    wanted("no version", run(AMDRAW, text="TRACE 4\n")[0], 3)
     wanted("no file", run(AMDRAW, f"{folder}/none"), (4, "", f"amdraw: {folder}/none: No such file or directory\n"))
 
 
@@ -435,6 +452,7 @@ def main() -> None:
     server_goes_away()
     with tempfile.TemporaryDirectory() as folder:
         pictures(folder)
+        by_socket(folder)
         lines_of_a_pipe(folder)
         what_is_wrong(folder)
         any_text(folder)

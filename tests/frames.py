@@ -21,7 +21,7 @@ LIMIT = 16 * 1024
 
 # Functions that may have a larger frame, by a part of their name, each with why.
 LARGE = {
-    "TraceFile::rename": "std's rename of a file alone: it has room for both names, twice",
+    "TraceFile::keep": "std's rename of a file, and little else: it has room for both names, twice",
 }
 
 FUNCTION = re.compile(r"^[0-9a-f]+ <(.*)>:$")

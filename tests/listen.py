@@ -15,12 +15,13 @@ from typing import Any, Callable, Iterable, List, Optional, Sequence, Tuple
 
 sys.dont_write_bytecode = True
 from other_protocols import CONNECTIONS, other_protocols  # noqa: E402
-from support import AMAUDIT, AMSERVE, LIMIT, TOP, Client, Server, audit, built, fail, random_line, wanted  # noqa: E402
+from support import AMAUDIT, AMSERVE, LIMIT, TOP, Client, Server, audit, built, fail, random_line, tcp_sockets, wanted  # noqa: E402
 
 
-def serve(sessions: int, workers: int, trace: Optional[str] = None, stop: bool = False, **how: Any) -> Server:
+def serve(sessions: int, workers: int, trace: Optional[str] = None, stop: bool = False, words: Sequence[str] = (), **how: Any) -> Server:
     """A server of so many sessions and workers."""
-    return Server("--sessions", str(sessions), "--workers", str(workers), *(["--stop"] if stop else []), trace=trace, **how)
+    given = [*words, "--stop"] if stop else words
+    return Server("--sessions", str(sessions), "--workers", str(workers), *given, trace=trace, **how)
 
 
 def asked(client: Client, *lines: str) -> str:
@@ -223,20 +224,31 @@ def files_at_most(count: int) -> Callable[[], None]:
     return lambda: resource.setrlimit(resource.RLIMIT_NOFILE, (count, count))
 
 
-def no_second_thread(folder: str) -> None:
-    """Where no thread can be started, sessions are served all the same, one after another, before the workers."""
+def for_others(folder: str) -> str:
+    """The program, where each user may run it."""
     os.mkdir(folder)
     program = os.path.join(folder, "program")
     shutil.copy(built("am_serve_listen"), program)
     for path in (os.path.dirname(folder), folder, program):
         os.chmod(path, 0o755)
+    return program
+
+
+def as_somebody() -> None:
+    """Has a process that begins be that of a user who isn't root."""
+    if os.geteuid() == 0:
+        os.setgid(54_321)
+        os.setuid(54_321)
+
+
+def no_second_thread(folder: str) -> None:
+    """Where no thread can be started, sessions are served all the same, one after another, before the workers."""
+    program = for_others(folder)
 
     def alone() -> None:
         # (root may start as many as it likes)
         resource.setrlimit(resource.RLIMIT_NPROC, (1, 1))
-        if os.geteuid() == 0:
-            os.setgid(54_321)
-            os.setuid(54_321)
+        as_somebody()
 
     server = serve(2, 1, program=(program,), preexec_fn=alone)
     for number in (1, 2):
@@ -281,23 +293,26 @@ def worker_moves(trace: str) -> None:
 
 
 def turns_of_workers(trace: str) -> None:
-    """Each answered line lets the workers have one turn, one in all, also where the lines come and the answers go together; and so
-    many threads are there as are asked for."""
+    """Each answered line lets the workers have one turn, one in all, while a run has entries, also where the lines come and the
+    answers go together; and so many threads are there as are asked for."""
     ways: List[Callable[[Client, List[str]], List[str]]] = [Client.ask_all, Client.ask_at_once]
     for workers, ask in ((workers, ask) for ask in ways for workers in (1, 3)):
         server = serve(1, workers, trace)
         client = Client(server.port)
-        ask(client, ["SEEN"] * 10)
+        asked(client, "BEGIN", "LOAD k=v", "COMMIT")
+        time.sleep(0.5)
+        ask(client, ["BEGIN"] + ["SEEN"] * 10)
         time.sleep(1)
         # (a thread for all sessions, one for each session and worker, and those that wait for them)
         threads = len(os.listdir(f"/proc/{server.process.pid}/task"))
         if not 1 + workers <= threads <= 4 + workers:
             fail(f"{threads} threads for a session and {workers} workers")
-        client.ask("BEGIN")
+        client.ask("COMMIT")
         client.quit()
         server.closed()
         lines = trace_lines(trace)
-        wanted("turns for ten answers", lines.index("BEGIN | BEGUN 1") - 1, 10)
+        turns = lines.index("COMMIT 2 | COMMITTED 2") - lines.index("BEGIN | BEGUN 2") - 1
+        wanted("turns for eleven answers", turns, 11)
 
 
 def numbers_of_sessions() -> None:
@@ -409,6 +424,11 @@ def turns_with_one_refused(number: int, library: str, folder: str, pause: float)
             if line:
                 with socket.create_connection(("127.0.0.1", int(line[1])), timeout=20) as client:
                     answers = client.makefile("r", encoding="ascii")
+                    # (a worker rests while no run has entries; any of these lines may be the one that is refused)
+                    for _ in range(3):
+                        client.sendall(b"BEGIN\nLOAD k=v\nCOMMIT\n")
+                        if [answers.readline() for _ in range(3)][1] == "OK\n":
+                            break
                     for _ in range(40):
                         client.sendall(b"SEEN\n")
                         said.append(answers.readline())
@@ -439,22 +459,112 @@ def refused_session(port: int, is_slow: bool) -> List[str]:
     return said.decode().splitlines()
 
 
-def refused(*words: str, **how: Any) -> Tuple[int, str, str]:
+def refused(*words: str, program: str = AMSERVE, **how: Any) -> Tuple[int, str, str]:
     """A server that ends at once: its status, and what it said."""
     how = {"stdout": subprocess.PIPE, **how}
-    run = subprocess.run([AMSERVE, "listen", *words], stderr=subprocess.PIPE, text=True, timeout=LIMIT, check=False, **how)
+    run = subprocess.run([program, "listen", *words], stderr=subprocess.PIPE, text=True, timeout=LIMIT, check=False, **how)
     return run.returncode, run.stdout, run.stderr
+
+
+def no_door(place: str, why: str) -> Tuple[int, str, str]:
+    """How a server ends that can't listen there."""
+    return 3, "", f"amserve: {place}: {why}\namserve: cannot listen\n"
+
+
+def no_trace(path: str, why: str) -> Tuple[int, str, str]:
+    """How a server ends that can't write its trace there."""
+    return 4, "", f"amserve: {path}: {why}\namserve: cannot write the trace\n"
+
+
+# What the system says.
+USED = "Address already in use (os error 98)"
+DENIED = "Permission denied (os error 13)"
+ABSENT = "No such file or directory (os error 2)"
+FOLDER = "Is a directory (os error 21)"
 
 
 def ports_and_traces(folder: str) -> None:
     """A port in use, and a trace that can't be written: it is told before the port is listened at, also where that is taken."""
+    astray = os.path.join(folder, "no", "such", "folder")
     with socket.create_server(("127.0.0.1", 0)) as taken:
         port = str(taken.getsockname()[1])
-        wanted("a port in use", refused("--port", port), (3, "", "amserve: cannot listen\n"))
-        for path in (os.path.join(folder, "no", "such", "folder"), folder):
-            for given in ("0", port):
-                wanted("a trace that can't be written", refused("--port", given, "--trace", path), (4, "", "amserve: cannot write the trace\n"))
+        beside: List[List[str]] = [[], ["--stay"], ["--socket", os.path.join(folder, "unused")]]
+        for words in beside:
+            wanted("a port in use", refused("--port", port, *words), no_door(f"port {port}", USED))
+        for path, why in ((astray, ABSENT), (folder, FOLDER)):
+            for words in (["--port", "0"], ["--port", port], ["--port", "0", "--stay"]):
+                wanted("a trace that can't be written", refused(*words, "--trace", path), no_trace(path, why))
     wanted("a trace with no name", refused("--port", "0", "--trace", "")[0], 2)
+    status, out, said = refused("--sessions", "2")
+    wanted("neither a port nor a socket", (status, out, "--port" in said, "--socket" in said), (2, "", True, True))
+
+
+def what_others_may_not(folder: str) -> None:
+    """Who isn't root is told which port, which socket or which trace it may not have, and why."""
+    program = for_others(folder)
+    # (who runs this test may be the owner)
+    os.chmod(folder, 0o555)
+    path = os.path.join(folder, "door")
+    wanted("a socket in a folder of others", refused("--socket", path, program=program, preexec_fn=as_somebody), no_door(path, DENIED))
+    trace = os.path.join(folder, "trace")
+    ways: List[List[str]] = [[], ["--stay"]]
+    for words in ways:
+        found = refused("--port", "0", "--trace", trace, *words, program=program, preexec_fn=as_somebody)
+        wanted("a trace in a folder of others", found, no_trace(trace, DENIED))
+    with open("/proc/sys/net/ipv4/ip_unprivileged_port_start", encoding="ascii") as file:
+        if int(file.read()) > 80:
+            wanted("a port of root's", refused("--port", "80", program=program, preexec_fn=as_somebody), no_door("port 80", DENIED))
+        else:
+            print("listen: each user may listen at each port here")
+    os.chmod(folder, 0o755)
+    wanted("what is left there", os.listdir(folder), ["program"])
+
+
+def socket_alone(folder: str) -> None:
+    """A socket of the file system with no port beside it: nothing of TCP is open, sessions are served, and it is gone at the end."""
+    path = os.path.join(folder, "door")
+    server = Server("--sessions", "2", path=path)
+    wanted("its mode", os.stat(path).st_mode & 0o777, 0o600)
+    wanted("sockets of TCP", tcp_sockets(server), 0)
+    # (another one may not have it, and leaves it as it is)
+    ways: List[List[str]] = [[], ["--stay"], ["--port", "0"]]
+    for words in ways:
+        wanted("another server there", refused("--socket", path, *words), no_door(path, USED))
+    first, second = Client(path), Client(path)
+    wanted("first client", asked(first, "BEGIN", "INS 5 a", "COMMIT"), "BEGUN 1 / OK / COMMITTED 1")
+    wanted("second client", asked(second, "BEGIN", "GET 5", "COMMIT"), "BEGUN 2 / VAL a / COMMITTED 2")
+    first.quit()
+    second.quit()
+    wanted("commits", server.closed()[1], 2)
+    wanted("whether the socket is there at the end", os.path.exists(path), False)
+    server = Server("--sessions", "8", "--stop", path=path)
+    server.tell("STOP\n")
+    wanted("a server that nobody asked", server.closed(), (0, 0))
+    # One that was killed leaves it, and the next one replaces it.
+    server = Server(path=path)
+    server.process.kill()
+    server.end(-9)
+    wanted("whether the socket is left", os.path.exists(path), True)
+    server = Server(path=path)
+    Client(path).quit()
+    server.closed()
+    for astray, why in ((f"{folder}/no/door", ABSENT), (f"{folder}/{'long' * 30}", "path must be shorter than SUN_LEN")):
+        wanted("a socket that can't be made", refused("--socket", astray), no_door(astray, why))
+    wanted("a socket with no name", refused("--socket", "")[0], 2)
+
+
+def port_and_socket(folder: str) -> None:
+    """A server at both serves as many sessions at each, and says which port it is."""
+    path = os.path.join(folder, "door")
+    server = serve(1, 0, words=("--socket", path))
+    wanted("sockets of TCP", tcp_sockets(server), 1)
+    far, near = Client(server.port), Client(path)
+    wanted("at the port", asked(far, "BEGIN", "INS 5 a", "COMMIT"), "BEGUN 1 / OK / COMMITTED 1")
+    wanted("at the socket", asked(near, "BEGIN", "GET 5", "COMMIT"), "BEGUN 2 / VAL a / COMMITTED 2")
+    far.quit()
+    near.quit()
+    wanted("commits", server.closed()[1], 2)
+    wanted("whether the socket is there at the end", os.path.exists(path), False)
 
 
 def kept_and_full(folder: str) -> None:
@@ -472,7 +582,7 @@ def kept_and_full(folder: str) -> None:
     if os.path.exists("/dev/full"):
         server = serve(1, 0, "/dev/full")
         Client(server.port).quit()
-        wanted("a full device", server.end(4), ("", "amserve: cannot write the trace\n"))
+        wanted("a full device", (4, *server.end(4)), no_trace("/dev/full", "No space left on device (os error 28)"))
     with open("/dev/full", "w", encoding="ascii") as full:
         wanted("standard output that is full", refused("--port", "0", stdout=full)[0], 1)
 
@@ -495,7 +605,7 @@ def files_of_others(folder: str) -> None:
         wanted("a file of somebody else", trace_lines(others), ["somebody's"])
         wanted("the trace and its mode", (trace_lines(trace), os.stat(trace).st_mode & 0o777), (["TRACE 2"], 0o600))
         wanted("whether the link is one", os.path.islink(link), True)
-    wanted("a link that leads nowhere", refused("--port", "0", "--trace", astray), (4, "", "amserve: cannot write the trace\n"))
+    wanted("a link that leads nowhere", refused("--port", "0", "--trace", astray), no_trace(astray, ABSENT))
     wanted("what is left there", sorted(name for name in os.listdir(folder) if name.startswith("moded")), ["moded", "moded.part"])
 
 
@@ -531,7 +641,8 @@ def few_files() -> None:
     for client in clients:
         client.quit()
     out, said = server.end(3)
-    wanted("where a connection can't be accepted", said, "amserve: cannot accept\n")
+    why = "amserve: a connection: Too many open files (os error 24)\namserve: cannot accept\n"
+    wanted("where a connection can't be accepted", said, why)
     if not clients or not out.startswith("CLOSED"):
         fail(f"the sessions begun were not served to their end: {out!r}")
 
@@ -561,6 +672,9 @@ def main() -> None:
         numbers_of_sessions()
         stopped_server(trace)
         ports_and_traces(folder)
+        what_others_may_not(os.path.join(folder, "others"))
+        socket_alone(folder)
+        port_and_socket(folder)
         kept_and_full(folder)
         files_of_others(folder)
         killed_server(folder)

@@ -9,6 +9,7 @@ import glob
 import os
 import re
 import shutil
+import socket
 import subprocess
 import sys
 import tempfile
@@ -132,6 +133,7 @@ def check_debian(packages: List[str], root: str) -> None:
     for name in ("man1/amserve.1.gz", "man1/amreplica.1.gz", "man3/tiuvrokk.3.gz", "man7/tiuvrokk-protocol.7.gz"):
         wanted(f"the manual {name}", os.path.exists(f"{root}/usr/share/man/{name}"), True)
     check_units(root)
+    check_settings(next(it for it in names if "/tiuvrokk_" in it), root)
     check_removal(names, root)
 
 
@@ -165,6 +167,33 @@ def check_units(root: str) -> None:
         ran = subprocess.run(words, capture_output=True, text=True, timeout=LIMIT, check=False)
         wanted(f"what systemd says of {path}", [it for it in ran.stderr.splitlines() if "am" in it], [])
         os.remove(copy)
+
+
+def check_settings(package: str, root: str) -> None:
+    """The file that the unit takes its words from is the administrator's, and with these words a server listens at a socket, in
+    a folder that the unit has."""
+    path = "/etc/default/amserve"
+    run(["dpkg-deb", "-e", package, f"{root}/control"])
+    with open(f"{root}/control/conffiles", encoding="ascii") as file:
+        wanted("what dpkg knows to be an administrator's", file.read(), f"{path}\n")
+    shutil.rmtree(f"{root}/control")
+    with open(f"{root}/usr/lib/systemd/system/amserve.service", encoding="utf-8") as file:
+        unit = file.read().splitlines()
+    asked = [f"EnvironmentFile={path}", "ExecStart=/usr/bin/amserve listen --stay $AMSERVE_WORDS", "RuntimeDirectory=amserve", "StateDirectory=amserve"]
+    wanted("lines of the unit", [it for it in asked if it not in unit], [])
+    with open(f"{root}{path}", encoding="utf-8") as file:
+        words = next(line for line in file if line.startswith("AMSERVE_WORDS=")).partition("=")[2].strip().strip('"').split()
+    place = f"{root}/door"
+    wanted("where it listens", words[:2], ["--socket", "/run/amserve/socket"])
+    with subprocess.Popen([f"{root}/usr/bin/amserve", "listen", "--stay", "--socket", place, *words[2:]], stdout=subprocess.PIPE, text=True) as server:
+        wanted("the server of these words", server.stdout.readline() if server.stdout else "", f"LISTEN {place}\n")
+        with socket.socket(socket.AF_UNIX) as client:
+            client.settimeout(LIMIT)
+            client.connect(place)
+            client.sendall(b"BEGIN\nINS ant 6\nCOMMIT\nQUIT\n")
+            wanted("its answers", client.makefile("r", encoding="ascii").read(), "BEGUN 1\nOK\nCOMMITTED 1\nBYE\n")
+        server.terminate()
+        wanted("its end", (server.communicate(timeout=LIMIT)[0].split()[0], server.returncode, os.path.exists(place)), ("CLOSED", 0, False))
 
 
 def check_removal(names: List[str], root: str) -> None:

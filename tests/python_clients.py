@@ -315,6 +315,15 @@ def odd_answers() -> None:
     odd = Odd({**STILL, b"HOLD": b"ERR HELD 4"})
     with tiuvrokk.connect(port=odd.port) as client:
         wanted("who holds", raised(tiuvrokk.Held, lambda: client.hold(100)).answer, "ERR HELD 4")
+    for answer in (b"WHO", b"WHO 2 1:1:1", b"WHO 1 1:1", b"WHO 0 1:1:1", b"WHO 1 1:1:-1", b"WHO x", b"OK", b"ERR SYNTAX"):
+        odd = Odd({**STILL, b"WHO": answer, b"END": answer})
+        with tiuvrokk.connect(port=odd.port) as client:
+            raised(tiuvrokk.Refused, client.who, f"WHO answered {answer!r}")
+            if answer != b"OK":
+                raised(tiuvrokk.Refused, lambda: client.end(1), f"END answered {answer!r}")
+    odd = Odd({**STILL, b"WHO": b"WHO 2 0:7:0 18446744073709551615:8:90"})
+    with tiuvrokk.connect(port=odd.port) as client:
+        wanted("who has a transaction", client.who(), [(0, 7, 0), (2**64 - 1, 8, 90)])
 
 
 def full_sessions() -> None:

@@ -15,7 +15,7 @@ from replica_ends import largest_block
 from support import fail, wanted
 
 from tiuvrokk_replica.etcd import Etcd, Refused, decoded, encoded
-from tiuvrokk_replica.log import Event
+from tiuvrokk_replica.log import Event, Log, WentBack
 from tiuvrokk_replica.snapshots import put_pieces
 from tiuvrokk_replica.store import StoreEnded
 
@@ -94,6 +94,26 @@ def pipelines(one: Client) -> None:
     wanted("CR CR LF", answers, ["BEGUN", "ERR", "VAL", "ERR", "COMMITTED"])
     number = one.ask("BEGIN", "COMMIT")[1].split()[1]
     wanted("SEEN", one.ask("SEEN")[0].split()[::2], ["SEEN", number])
+
+
+def endings(cluster: Cluster) -> None:
+    """Who has a transaction at a replica, and an end to it, inside a transaction and without one, and to oneself."""
+    one, two = cluster.client(0), cluster.client(0)
+    first, second = (it.ask("SEEN")[0].split()[1] for it in (one, two))
+    wanted("nobody", one.ask("WHO", "END 99", "END x", f"END {2**64}"), ["WHO 0", "ERR SESSION", "ERR SYNTAX", "ERR RANGE"])
+    two.ask("BEGIN", "INS e1 1")
+    wanted("one", one.ask("WHO"), [f"WHO 1 {second}:1:0"])
+    wanted("beside it", one.ask("BEGIN", "INS e2 1", "WHO", "END 99")[2:], [f"WHO 2 {first}:1:0 {second}:1:0", "ERR SESSION"])
+    wanted("its end", one.ask(f"END {second}", "WHO", f"END {second}"), ["OK", f"WHO 1 {first}:1:0", "ERR SESSION"])
+    wanted("its connection", two.file.readline(), b"")
+    wanted("who ended it goes on", one.ask("GET e1", "COMMIT")[0], "NONE")
+    one.ask("BEGIN")
+    one.send(f"END {first}", "SEEN")
+    wanted("its own end", (one.answer(), one.file.readline()), ("OK", b""))
+    other = cluster.client(0)
+    wanted("nobody is left", other.ask("WHO"), ["WHO 0"])
+    for client in (one, two, other):
+        client.close()
 
 
 def sent_ahead(cluster: Cluster) -> None:
@@ -340,6 +360,29 @@ def piece_let_go() -> None:
     wanted("a piece that nobody let go", put(5), "ended")
 
 
+def begun_within_an_entry() -> None:
+    """Who begins by a snapshot reads from before it on, where an entry had begun whose head hadn't come. Of another one, which the
+    snapshot has, it may be shown the end alone."""
+    def put(revision: int, piece: str) -> Event:
+        return Event(revision, f"{NAME}/log/00000000/{piece}", encoded(piece.encode()))
+
+    def taken(since: int) -> Log:
+        log = Log(None, NAME)  # type: ignore[arg-type]
+        entries = [entry for event in events if event.revision > since and (entry := log.take(event))]
+        wanted("the entries that are read", [entry.name for entry in entries], ["whole"])
+        try:
+            texts.append(entries[0].text().decode())
+        except WentBack as fault:
+            texts.append(str(fault))
+        return log
+
+    texts: List[str] = []
+    events = [put(2, "whole.0"), put(3, "later.0"), put(4, "whole.1"), put(5, "whole.!")]
+    since = taken(0).first(5)
+    taken(since)
+    wanted("its text, from the beginning and from there", texts, ["whole.0whole.1whole.!", "pieces of the entry whole weren't shown"])
+
+
 def all_corners(cluster: Cluster) -> None:
     """Each of them, on one log."""
     for at in range(3):
@@ -349,6 +392,7 @@ def all_corners(cluster: Cluster) -> None:
         ("phantoms", lambda: phantoms(one, two)),
         ("one state", lambda: one_state(one, two)),
         ("pipelines", lambda: pipelines(one)),
+        ("endings", lambda: endings(cluster)),
         ("sent ahead", lambda: sent_ahead(cluster)),
         ("staging", lambda: staging(one, two)),
         ("always in conflict", lambda: always_in_conflict(cluster, one)),
@@ -357,6 +401,7 @@ def all_corners(cluster: Cluster) -> None:
         ("large answers", lambda: large_answers(one)),
         ("puts again", lambda: puts_again(cluster, one, two)),
         ("a piece that is gone", piece_let_go),
+        ("begun within an entry", begun_within_an_entry),
         ("slept", lambda: slept(cluster, 1)),
         ("slept longer", lambda: slept(cluster, 3)),
         ("no majority", lambda: no_majority(cluster)),

@@ -16,7 +16,7 @@ from typing import Any, Callable, Dict, List, Optional, Sequence, Set, Tuple
 
 sys.dont_write_bytecode = True
 from other_protocols import other_protocols  # noqa: E402
-from support import AMAUDIT, AMSERVE, LIMIT, Client, Server, audit, built, fail, wanted  # noqa: E402
+from support import AMAUDIT, AMSERVE, LIMIT, Client, Server, audit, built, fail, program, tcp_sockets, wanted  # noqa: E402
 
 
 def stay(*words: str, trace: Optional[str] = None, **how: Any) -> Server:
@@ -54,15 +54,6 @@ def patient_session(port: int, key: str) -> None:
         client = Client(port)
     wanted("a session's answer", client.ask_all([f"INS {key} v", "COMMIT"])[0], "OK")
     client.quit()
-
-
-def program(server: Server) -> int:
-    """The process of the program, which a launcher holds."""
-    pid = server.process.pid
-    while os.path.basename(os.readlink(f"/proc/{pid}/exe")) not in ("amserve", "am_serve_listen"):
-        with open(f"/proc/{pid}/task/{pid}/children", encoding="ascii") as file:
-            pid = int(file.read().split()[0])
-    return pid
 
 
 def memory(server: Server) -> int:
@@ -234,6 +225,29 @@ def staged_and_left(sessions: int) -> None:
     stopped(server)
 
 
+def loads_without_end(trace: str, loads: int) -> None:
+    """More loads than a bounded server takes, half of them aborted, and one more: its trace, of version 3, is legal."""
+    server = stay("--workers", "0", trace=trace)
+    # (a transaction holds 256 locks; 65,535 runs at most have entries, so what is loaded is merged or cleaned, a run at a time)
+    lines: List[str] = []
+    for first in range(0, loads, 250):
+        keys = [f"{key:06}" for key in range(first, first + 250)]
+        lines += ["BEGIN", *(f"LOAD {key}=v" for key in keys)]
+        if first % 500:
+            lines += ["ABORT", *[f"CLEAN {keys[0]} {keys[-1]} 64"] * 4]
+        else:
+            lines += ["COMMIT", "BEGIN", f"SCAN {keys[0]} {keys[-1]} 1", "COMMIT", *["MERGE 1"] * 251]
+    client = Client(server.port)
+    words = {answer.split()[0] for answer in client.ask_at_once(lines)}
+    wanted("the answers", words, {"BEGUN", "OK", "COMMITTED", "ABORTED", "ROWS", "MOVED", "DONE", "CLEANED"})
+    wanted("one more", client.ask_all(["BEGIN", "LOAD x=v", "GET x", "COMMIT"])[1:3], ["OK", "VAL v"])
+    client.quit()
+    stopped(server)
+    with open(trace, encoding="ascii") as file:
+        wanted("the first line of the trace", file.readline(), "TRACE 3\n")
+    wanted("audit", audit(trace), f"LEGAL {loads // 250 + 1}")
+
+
 def waiting_connections() -> None:
     """A connection beyond those that are served at once waits, and is served where one of them ends meanwhile."""
     server = stay("--sessions", "2")
@@ -296,8 +310,10 @@ def many_at_once() -> None:
     said, middle = burst(server.port, 500)
     wanted("500 at once", (said, middle < 0.9), ({b"SEEN": 500}, True))
     wanted("1,000 at once", burst(server.port, 1000)[0], {b"SEEN": 1000})
-    said, _ = burst(server.port, 3000)
-    wanted("3,000 at once", {*said} <= {b"SEEN", b"ERR"}, True)
+    # (as many as this process may have of files)
+    for count in (3000, min(10_000, before[1] - 200)):
+        said, _ = burst(server.port, count)
+        wanted(f"what {count} at once are told", {*said} <= {b"SEEN", b"ERR"} or said, True)
     resource.setrlimit(resource.RLIMIT_NOFILE, before)
     stopped(server)
 
@@ -792,12 +808,35 @@ def socket_of_files(folder: str) -> None:
     with open(path, "w", encoding="ascii") as file:
         file.write("somebody's")
     run = subprocess.run([built("am_serve_listen"), "listen", "--port", "0", "--stay", "--socket", path], capture_output=True, text=True, timeout=LIMIT, check=False)
-    wanted("a file in its place", (run.returncode, run.stdout, run.stderr, os.path.getsize(path)), (3, "", "amserve: cannot listen\n", 10))
+    why = f"amserve: {path}: Address already in use (os error 98)\namserve: cannot listen\n"
+    wanted("a file in its place", (run.returncode, run.stdout, run.stderr, os.path.getsize(path)), (3, "", why, 10))
+
+
+def socket_alone(folder: str) -> None:
+    """A socket of the file system with no port beside it: nothing of TCP is open, and a stop and SIGTERM reach the server."""
+    path = os.path.join(folder, "alone")
+    for by_signal in (False, True):
+        server = stay("--sessions", "2", "--workers", "0", path=path)
+        wanted("its mode", os.stat(path).st_mode & 0o777, 0o600)
+        wanted("sockets of TCP", tcp_sockets(server), 0)
+        one, two = Client(path), Client(path)
+        wanted("one session", one.ask_all(["BEGIN", "INS k v", "COMMIT"]), ["BEGUN 1", "OK", "COMMITTED 1"])
+        wanted("another", two.ask_all(["BEGIN", "GET k"]), ["BEGUN 2", "VAL v"])
+        one.quit()
+        if by_signal:
+            server.process.terminate()
+        else:
+            server.tell("STOP\n")
+        time.sleep(0.2)
+        wanted("a session that was begun", two.ask("COMMIT"), "COMMITTED 2")
+        two.quit()
+        out, said = server.end()
+        wanted("the end", (out, said, os.path.exists(path)), ("CLOSED 6 2\n", "", False))
 
 
 def wrong_words() -> None:
     """Words that go with a server that stays alone."""
-    for words in (["--grace", "1"], ["--log"], ["--idle", "1"], ["--socket", "s"], ["--stay", "--grace", "3601"], ["--stay", "--idle", "0"]):
+    for words in (["--grace", "1"], ["--log"], ["--idle", "1"], ["--stay", "--socket", ""], ["--stay", "--grace", "3601"], ["--stay", "--idle", "0"]):
         run = subprocess.run([built("am_serve_listen"), "listen", "--port", "0", *words], capture_output=True, text=True, timeout=LIMIT, check=False)
         wanted(f"the status of {words}", run.returncode, 2)
 
@@ -828,6 +867,7 @@ def main() -> None:
             unheard = stay("--sessions", "1", "--workers", "0", "--log", stderr=full)
         many_connections(trace, 2000)
         bounded_memory(trace, 20_000, 200_000)
+        loads_without_end(trace, 200_000)
         staged_and_left(30)
         long_sessions()
         workers_that_rest(trace)
@@ -854,9 +894,10 @@ def main() -> None:
         many_answers_at_once()
         told_by_log()
         socket_of_files(folder)
+        socket_alone(folder)
         told_each_minute(logged, begun)
         told_in_vain(unheard)
-    print("staying: many connections, memory, sessions that staged, long sessions, workers that rest, waiting ones, bursts, those that aren't served, those that speak another protocol, ends by signals, a full disk, a pipe that nobody reads, few files, idle sessions, peers that take nothing, workers that are woken, the log, one that is refused, and a socket of the file system")
+    print("staying: many connections, memory, 200,000 loads, sessions that staged, long sessions, workers that rest, waiting ones, bursts, those that aren't served, those that speak another protocol, ends by signals, a full disk, a pipe that nobody reads, few files, idle sessions, peers that take nothing, workers that are woken, the log, one that is refused, and a socket of the file system")
 
 
 if __name__ == "__main__":

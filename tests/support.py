@@ -1,7 +1,9 @@
 """Things that tests of the programs share: the programs, sessions with a server, and lines that look drawn."""
 
+import contextlib
 import os
 import random
+import re
 import signal
 import socket
 import subprocess
@@ -9,7 +11,7 @@ import sys
 import threading
 import time
 from collections import deque
-from typing import Any, Callable, Deque, Iterable, List, NoReturn, Optional, Sequence, Tuple
+from typing import Any, Callable, Deque, Iterable, List, NoReturn, Optional, Sequence, Tuple, Union
 
 TOP = os.path.dirname(os.path.dirname(os.path.abspath(__file__)))
 AMSERVE = os.path.join(TOP, "amserve")
@@ -84,16 +86,17 @@ def audit(trace: str) -> str:
 
 
 class Server:
-    """`amserve listen` at a free port."""
+    """`amserve listen` at a free port, or at a socket of the file system alone, where its path is given."""
 
-    def __init__(self, *words: str, trace: Optional[str] = None, program: Sequence[str] = (AMSERVE,), **how: Any) -> None:
-        given = [*program, "listen", "--port", "0", *words] + (["--trace", trace] if trace else [])
+    def __init__(self, *words: str, trace: Optional[str] = None, program: Sequence[str] = (AMSERVE,), path: str = "", **how: Any) -> None:
+        place = ["--socket", path] if path else ["--port", "0"]
+        given = [*program, "listen", *place, *words] + (["--trace", trace] if trace else [])
         how = {"stdin": subprocess.PIPE, "stdout": subprocess.PIPE, "stderr": subprocess.PIPE, "text": True, **how}
         self.process: "subprocess.Popen[str]" = subprocess.Popen(given, **how)
-        line = self.process.stdout.readline().split() if self.process.stdout else []
-        if len(line) != 2 or line[0] != "LISTEN":
-            fail(f"first line: {line}, {self.process.stderr.read() if self.process.stderr else ''}")
-        self.port = int(line[1])
+        line = self.process.stdout.readline() if self.process.stdout else ""
+        if not re.fullmatch(f"LISTEN {re.escape(path) or '[0-9]+'}\n", line):
+            fail(f"first line: {line!r}, {self.process.stderr.read() if self.process.stderr else ''}")
+        self.port = 0 if path else int(line.split()[1])
 
     def tell(self, text: str) -> None:
         """Writes to its standard input."""
@@ -124,11 +127,16 @@ class Server:
 
 
 class Client:
-    """A session, line by line. It keeps its lines and their answers."""
+    """A session at a port or at a socket of the file system, line by line. It keeps its lines and their answers."""
 
-    def __init__(self, port: int) -> None:
-        self.socket = socket.create_connection(("127.0.0.1", port), timeout=LIMIT)
-        self.socket.setsockopt(socket.IPPROTO_TCP, socket.TCP_NODELAY, 1)
+    def __init__(self, place: Union[int, str]) -> None:
+        if isinstance(place, str):
+            self.socket = socket.socket(socket.AF_UNIX)
+            self.socket.settimeout(LIMIT)
+            self.socket.connect(place)
+        else:
+            self.socket = socket.create_connection(("127.0.0.1", place), timeout=LIMIT)
+            self.socket.setsockopt(socket.IPPROTO_TCP, socket.TCP_NODELAY, 1)
         self.lines: List[str] = []
         self.replies: List[str] = []
         # (answers that came and weren't asked for yet, and the beginning of the next one)
@@ -195,3 +203,23 @@ def random_line(dice: random.Random, begun: bool) -> str:
     if kind == "CLEAN":
         return "CLEAN a cc 5"
     return "GET" if kind == "odd" else kind
+
+
+def program(server: Server) -> int:
+    """The process of the program, which a launcher holds."""
+    pid = server.process.pid
+    while os.path.basename(os.readlink(f"/proc/{pid}/exe")) not in ("amserve", "am_serve_listen"):
+        with open(f"/proc/{pid}/task/{pid}/children", encoding="ascii") as file:
+            pid = int(file.read().split()[0])
+    return pid
+
+
+def tcp_sockets(server: Server) -> int:
+    """How many sockets of TCP the program has."""
+    pid = program(server)
+    held = {os.readlink(f"/proc/{pid}/fd/{number}") for number in os.listdir(f"/proc/{pid}/fd")}
+    count = 0
+    for name in ("tcp", "tcp6"):
+        with contextlib.suppress(FileNotFoundError), open(f"/proc/{pid}/net/{name}", encoding="ascii") as file:
+            count += sum(f"socket:[{line.split()[9]}]" in held for line in file.readlines()[1:])
+    return count

@@ -31,7 +31,7 @@ Files: *
 
 
 class Package(NamedTuple):
-    """A package: its files, and those that dpkg itself reads."""
+    """A package: its files below /usr, those that dpkg itself reads, and settings, which stand where their paths say."""
 
     name: str
     section: str
@@ -39,6 +39,7 @@ class Package(NamedTuple):
     about: str
     entries: List[Entry]
     control: List[Entry] = []
+    settings: List[Entry] = []
     is_for_all: bool = False
     suggests: str = ""
 
@@ -79,8 +80,10 @@ def programs_package(programs: Dict[str, bytes]) -> Package:
     entries.append(Entry("share/doc/tiuvrokk/replicas.md.gz", packed(layout.bytes_of("docs/replicas.md"))))
     needs = [f"libc6 (>= {glibc_of(programs.values())})", "python3 (>= 3.9)"]
     about = "This package has the programs and their manuals."
+    # What an administrator changes there stays as it is where a newer package is installed.
+    settings = [Entry("etc/default/amserve", layout.bytes_of("packaging/amserve.default"))]
     # A replica needs nothing more on its own machine: etcd's members may lie on others.
-    return Package("tiuvrokk", "database", needs, about, entries, suggests="etcd-client, etcd-server")
+    return Package("tiuvrokk", "database", needs, about, entries, settings=settings, suggests="etcd-client, etcd-server")
 
 
 def library_package(name: str, shared: Entry) -> Package:
@@ -158,8 +161,12 @@ def in_debian(entry: Entry) -> Entry:
 def make(package: Package, epoch: int, folder: str) -> str:
     """Makes one package by dpkg-deb, and tells its name."""
     entries = [in_debian(it) for it in [*package.entries, *documents(package, epoch)]]
+    # (dpkg has those of settings elsewhere)
     sums = "".join(f"{hashlib.md5(it.data).hexdigest()}  {it.path}\n" for it in sorted(entries) if not it.link)
+    entries += package.settings
     control = [Entry("control", control_of(package, entries)), Entry("md5sums", sums.encode()), *package.control]
+    if package.settings:
+        control.append(Entry("conffiles", "".join(f"/{it.path}\n" for it in package.settings).encode()))
     made = os.path.join(folder, f"{package.name}_{layout.version()}_{'all' if package.is_for_all else architecture()}.deb")
     environment = {**os.environ, "SOURCE_DATE_EPOCH": str(epoch), "DPKG_DEB_THREADS_MAX": "1"}
     with tempfile.TemporaryDirectory() as root:

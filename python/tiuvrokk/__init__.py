@@ -33,6 +33,7 @@ ImportError.
 from ._client import Client, RemoteTransaction, connect
 from ._library import upkeep
 from ._store import Figures, Store, Transaction
+from ._wire import Active
 from .errors import (
     MAX_KEY, MAX_LIMIT, MAX_VALUE, Absent, Bad, BadLine, Busy, Closed, Conflict, Error, Exists, Held, Lapsed, NoMark, NotRising,
     NoTransaction, OutOfMemory, Refused, Status, TooMany, Twice, Unknown, Unreachable, WrongThread,
@@ -41,7 +42,7 @@ from .errors import (
 __version__ = "1.1.0"
 
 __all__ = [
-    "MAX_KEY", "MAX_VALUE", "MAX_LIMIT", "Store", "Transaction", "Figures", "connect", "Client", "RemoteTransaction", "upkeep", "Status",
+    "MAX_KEY", "MAX_VALUE", "MAX_LIMIT", "Store", "Transaction", "Figures", "connect", "Client", "RemoteTransaction", "Active", "upkeep", "Status",
     "Error", "Absent", "Exists", "Busy", "NoTransaction", "NoMark", "TooMany", "NotRising", "Twice", "Bad", "BadLine", "Closed",
     "OutOfMemory", "Refused", "Conflict", "Unreachable", "Unknown", "Held", "Lapsed", "WrongThread",
 ]

@@ -17,7 +17,7 @@ from typing import Any, Optional, TypeVar, Union, overload
 from ._mapping import MAX_PAGE, MAX_TRIES, RUN, Mapped, Runner
 from ._records import GREATEST, Record, Records, Text, double_line, first_double, line_runs, range_of, runs_of
 from ._wire import GREATEST_KEY, KEY, LAPSED, LEAST_KEY, RECORDS, VALUE, Path, Wire, below_key, ends_of, key_of, number_of, refusal
-from ._wire import rows_of, value_of
+from ._wire import Active, actives_of, rows_of, value_of
 from .errors import MAX_LIMIT, Absent, Closed, Conflict, Error, Exists, NotRising, NoTransaction, OutOfMemory, Refused
 from .errors import Unknown, Unreachable, WrongThread, bad_limit, bad_range, bad_text
 
@@ -117,6 +117,22 @@ class Client(Runner["RemoteTransaction"]):
         transactions that are active: these are awaited. Raises `Held` where another session holds it, or they don't end in
         time. A server that knows no such line raises `Refused`."""
         self._asked(b"HOLD %d" % index(milliseconds), lambda answer: True if answer == b"OK" else None)
+
+    def who(self) -> list[Active]:
+        """The sessions of the server, or of the replica, that have a transaction active: whose number `Busy.holder` is, and how long
+        no line came of it."""
+        found: list[Active] = self._asked(b"WHO", actives_of)
+        return found
+
+    def end(self, session: int) -> bool:
+        """Has that session of the server, or of the replica, end as if its client were gone: its transaction is aborted. Answers
+        whether there was one. Where it is this client's own, the next transaction begins at another one."""
+
+        def look(answer: bytes) -> Optional[bool]:
+            return True if answer == b"OK" else False if answer == b"ERR SESSION" else None
+
+        found: bool = self._asked(b"END %d" % index(session), look)
+        return found
 
     def load(self, records: Records, run: int = RUN, hold: int = _HOLD) -> int:
         """Adds the records of a mapping, or pairs, all or none, in a transaction of its own, as its `load` does, and answers how

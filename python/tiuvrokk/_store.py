@@ -26,6 +26,8 @@ Made = TypeVar("Made")
 
 _LOCKED_RUNS = 255
 _ABSENT, _EXISTS = int(Status.ABSENT), int(Status.EXISTS)
+# (names of this module are found sooner, and each transaction asks for them)
+_number, _pointer, _reference = ctypes.c_uint64, ctypes.byref, weakref.ref
 
 
 class Figures(NamedTuple):
@@ -121,7 +123,7 @@ class Store(Runner["Transaction"]):
         if self._begun:
             self._abort_dropped()
         tx = Transaction(self)
-        if status := self._calls.begin(self._at, ctypes.byref(tx._tx)):
+        if status := self._calls.begin(self._at, _pointer(tx._tx)):
             tx._over()
             raise error_of(status)
         return tx
@@ -222,18 +224,18 @@ class Transaction(Mapped):
     UTF-8; anything else is a TypeError."""
 
     _is_leaving = False  # (its end was begun)
+    _is_over = True  # (until it can be begun)
 
     def __init__(self, store: Store) -> None:
         self._store = store
         self._calls = store._calls
         self._thread = store._thread
         self._at = store._at
-        self._end = store._calls.abort
-        self._is_over = False
         # (the library writes both numbers there, so no interrupt comes between)
-        self._commit_number = ctypes.c_uint64()
-        self._tx = ctypes.c_uint64()
-        store._begun[id(self._tx)] = (weakref.ref(self), self._tx)
+        self._commit_number = _number()
+        self._tx = tx = _number()
+        store._begun[id(tx)] = (_reference(self), tx)
+        self._is_over = False
 
     @property
     def number(self) -> int:
@@ -266,12 +268,12 @@ class Transaction(Mapped):
             self.abort()
 
     def __del__(self, warn: Callable[..., None] = warnings.warn, here: Callable[[], int] = get_ident) -> None:
-        if not hasattr(self, "_tx") or not self.is_active or not self._tx.value:
+        if self._is_over or not self.is_active or not self._tx.value:
             return
         told = f"{self!r} was dropped, and is aborted"
         # (else its own thread may be at work in the library, and aborts it at its next call)
         if self._thread == here():
-            self._end(self._at, self._tx)
+            self._calls.abort(self._at, self._tx)
             self._over()
         self._is_leaving = True
         warn(told, ResourceWarning, source=self)
@@ -286,7 +288,7 @@ class Transaction(Mapped):
         """Commits, and answers the number of the commit: they rise by one from 1."""
         if self._thread != get_ident():
             self._store._stay()
-        if status := self._calls.commit(self._at, self._tx, ctypes.byref(self._commit_number)):
+        if status := self._calls.commit(self._at, self._tx, _pointer(self._commit_number)):
             raise error_of(status, self.number)
         self._over()
         return self._commit_number.value

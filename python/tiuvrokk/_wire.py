@@ -6,7 +6,7 @@ import os
 import re
 import socket
 from collections.abc import Sequence
-from typing import Optional, Union
+from typing import NamedTuple, Optional, Union
 
 from ._records import GREATEST, bytes_of
 from .errors import Absent, Bad, Busy, Conflict, Error, Exists, Held, Lapsed, NoMark, NotRising, NoTransaction, OutOfMemory
@@ -28,6 +28,18 @@ _REFUSALS: dict[bytes, type[Refused]] = {
     b"ERR CONFLICT": Conflict, b"ERR UNREACHABLE": Unreachable, b"ERR UNKNOWN": Unknown, LAPSED: Lapsed,
 }  # fmt: skip
 _NUMBER = re.compile(rb"[0-9]{1,20}")
+_ACTIVE = re.compile(rb"([0-9]{1,20}):([0-9]{1,20}):([0-9]{1,20})")
+
+
+class Active(NamedTuple):
+    """A session with an active transaction, by `Client.who`."""
+
+    session: int
+    """Its number, for `Client.end`."""
+    transaction: int
+    """The number by which `Busy.holder` names the transaction."""
+    seconds: int
+    """How many whole seconds ago its last line came."""
 
 
 def key_of(text: object) -> bytes:
@@ -146,6 +158,15 @@ def number_of(answer: bytes, word: bytes) -> Optional[int]:
     """The number behind a word of an answer."""
     rest = rest_of(answer, word)
     return int(rest) if rest is not None and _NUMBER.fullmatch(rest) else None
+
+
+def actives_of(answer: bytes) -> Optional[list[Active]]:
+    """What an answer to WHO tells, where it is one."""
+    word, *rest = answer.split(b" ")
+    found = [_ACTIVE.fullmatch(text) for text in rest[1:]]
+    if word != b"WHO" or rest[:1] != [b"%d" % len(found)] or None in found:
+        return None
+    return [Active(*map(int, it.groups())) for it in found if it]
 
 
 def rows_of(answer: bytes, most: int) -> Optional[list[tuple[bytes, bytes]]]:

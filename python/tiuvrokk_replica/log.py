@@ -49,13 +49,16 @@ class Event(NamedTuple):
 
 
 class Entry(NamedTuple):
-    """An entry of the log, by the events that made it."""
+    """An entry of the log, by the events that made it. Who begins by a snapshot may lack the first ones of an entry that it has."""
 
     name: str
-    pieces: List[Event]
+    pieces: List[Optional[Event]]
 
     def text(self) -> bytes:
-        return b"".join(piece.value for piece in self.pieces)
+        found = [piece.value for piece in self.pieces if piece]
+        if len(found) < len(self.pieces):
+            raise WentBack(f"pieces of the entry {self.name} weren't shown")
+        return b"".join(found)
 
 
 class Head(NamedTuple):
@@ -149,7 +152,8 @@ class Log:
             return None
         pieces = self.pieces.pop(name, {})
         self.oldest.pop(name, None)
-        return Entry(name, [pieces[str(at)] for at in range(len(pieces))] + [event])
+        count = max(map(int, pieces), default=-1) + 1
+        return Entry(name, [pieces.get(str(at)) for at in range(count)] + [event])
 
     def first(self, revision: int) -> int:
         """Behind which revision a reader has to begin who has a snapshot of the given one: entries may have begun before."""

@@ -121,6 +121,7 @@ class Program:
 
     def __init__(self, asked: argparse.Namespace) -> None:
         self.asked, self.sessions, self.open = asked, 0, 0
+        self.served: Dict[int, Session] = {}  # by their numbers
         self.access = access_of(asked)
         self.end: "asyncio.Future[None]" = asyncio.get_running_loop().create_future()
         self.store = Store(shlex.split(asked.store))
@@ -147,7 +148,8 @@ class Program:
     async def serve(self, connection: Connection, reader: asyncio.StreamReader, writer: asyncio.StreamWriter) -> None:
         self.sessions += 1
         self.open += 1
-        session = Session(self.replica, self.sessions, self.asked.reads == "local", self.asked.limit, writer)
+        session = Session(self.replica, self.served, self.sessions, self.asked.reads == "local", self.asked.limit, writer)
+        self.served[session.number] = session
         connection.session = session
         try:
             await session.serve(reader)
@@ -157,6 +159,7 @@ class Program:
             self.fail(fault)
         finally:
             self.open -= 1
+            self.served.pop(session.number, None)
             writer.close()
 
     def tell_stats(self) -> None:

@@ -3,7 +3,8 @@ from __future__ import annotations
 
 import asyncio
 import re
-from typing import Awaitable, Callable, List, Optional, Union
+import time
+from typing import Awaitable, Callable, Dict, List, Optional, Union
 
 from .lines import LONGEST, is_of_http, may_have_http
 from .replica import Outcome, Replica
@@ -24,15 +25,21 @@ WRITES = re.compile(rb"^(?:INS|REP|DEL|LOAD) ", re.MULTILINE)
 UNREAD, MOST_FLYING = 1 << 16, 100
 BEGUN = re.compile(rb"^BEGUN [0-9]+$", re.MULTILINE)
 # Lines that end a transaction, or that don't belong to it.
-APART = (b"QUIT", b"ABORT", b"SEEN")
-MAINTENANCE = (b"MERGE ", b"CLEAN ")
+APART = (b"QUIT", b"ABORT", b"SEEN", b"WHO")
+MAINTENANCE = (b"MERGE ", b"CLEAN ", b"END ")
+# (no such line goes to the store, whose own session it would end)
+END = re.compile(rb"END (0|[1-9][0-9]{0,19})")
 
 
 class Session:
     """A client's lines. Where it reads local states these are at most `limit` seconds old."""
 
-    def __init__(self, replica: Replica, number: int, is_local: bool, limit: float, writer: asyncio.StreamWriter) -> None:
+    def __init__(
+        self, replica: Replica, sessions: Dict[int, Session], number: int, is_local: bool, limit: float, writer: asyncio.StreamWriter,
+    ) -> None:
         self.replica, self.number, self.is_local, self.limit, self.writer = replica, number, is_local, limit, writer
+        self.sessions = sessions  # all of the replica, by their numbers
+        self.heard = time.monotonic()  # when something came last
         self.begun = 0
         self.transaction: Optional[Transaction] = None
         self.out: List[Union[bytes, Block]] = []  # answers, and blocks in the place of theirs
@@ -47,6 +54,7 @@ class Session:
     def take_past(self, data: bytes) -> bool:
         """Lines that a session which rests takes with no task: BEGIN, the COMMIT of what was told, and whole transactions that
         write and were sent ahead. Whether it took them."""
+        self.heard = time.monotonic()
         if not self.rests or self.flying >= MOST_FLYING or self.writer.transport.get_write_buffer_size() > UNREAD:
             return False
         transaction = self.transaction
@@ -106,6 +114,7 @@ class Session:
             self.rests = not rest
             data = await reader.read(CHUNK)
             self.rests = False
+            self.heard = time.monotonic()
             if not self.has_begun and not data[:1].isupper():
                 return
             self.has_begun = True
@@ -191,9 +200,30 @@ class Session:
             self.out.append(b"REPLICA")
         elif line == b"SEEN":
             self.out.append(b"SEEN %d %d" % (self.number, self.replica.commits))
+        elif line == b"WHO":
+            self.out.append(self.who())
+        elif END.fullmatch(line) and int(line[4:]) < 1 << 64:
+            return self.end(int(line[4:]))
         else:
             self.out += self.replica.store.free([line])
         return True
+
+    def who(self) -> bytes:
+        """The replica's sessions that have a transaction active, each with that and the seconds since something came."""
+        now = time.monotonic()
+        active = [one for one in self.sessions.values() if one.transaction is not None]
+        told = [b"%d:%d:%d" % (one.number, one.begun, int(now - one.heard)) for one in active]
+        return b" ".join([b"WHO %d" % len(told), *told])
+
+    def end(self, number: int) -> bool:
+        """A session of the replica ends, as where its client is lost; whether this one goes on."""
+        other = self.sessions.pop(number, None)
+        self.out.append(b"ERR SESSION" if other is None else b"OK")
+        if other is self:
+            self.send()
+        elif other is not None:
+            other.writer.transport.abort()
+        return other is not self
 
     async def commit(self, transaction: Transaction) -> None:
         if transaction.only_reads() or transaction.has_stages or transaction.fault:

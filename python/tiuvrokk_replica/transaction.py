@@ -65,6 +65,8 @@ class Batch:
         *heads, self.text = rest.split(b"\n", int(first))
         self.heads = [head.split(b" ") for head in heads]
         self.numbers = [int(number) for _, number, _, _ in self.heads]
+        # An older replica takes END for no line and may have put one here. It would end the store's only session.
+        self.text = self.text.replace(b"\nEND ", b"\nENDS")
 
     def is_untold(self) -> bool:
         """Whether none of their lines was answered."""

@@ -231,7 +231,7 @@ def words() -> argparse.Namespace:
 def main() -> int:
     given = words()
     progress = Progress(NAME)
-    pages = Pages(lambda: with_server(given.port, given.wait))
+    pages = Pages(lambda: with_server(given))
     output = Output(given.file, given.escape)
     try:
         dump_all(pages, output, progress, given.hold, tries_of(given))

@@ -1,12 +1,12 @@
 """Brings records from a file into a store: writes the lines of one transaction that stages and loads them.
 
 Each line of FILE (standard input, where none or - is named) is a record: its key, a TAB or the first =, and its value, in
-any order. Runs are cut from them as they come, and each is sorted by its keys. With --port the lines go to the server
-there, and the transaction is committed only where every line was answered OK; else they go to standard output, for a pipe:
+any order. Runs are cut from them as they come, and each is sorted by its keys. With --port or --socket the lines go to
+the server there, and the transaction is committed only where every line was answered OK; else they go to standard output, for a pipe:
 
     (./amload data.tsv; cat queries) | ./amserve alone
 
-With --port it holds the server first: nobody else begins meanwhile, so no lock is in the way of the load, and readers wait as
+It holds a server first: nobody else begins meanwhile, so no lock is in the way of the load, and readers wait as
 long as it takes. Where another holds, or a transaction doesn't end in time, it tries again.
 
 A key is 1 to 32 visible characters of ASCII, none of them =, a value 1 to 64. The first line that is no record is told with
@@ -25,10 +25,10 @@ from .pieces import Pieces, Reading
 from .program import Parser, Stop, add_server, numbers, run_program, say, write_all
 from .progress import Progress
 from .records import MAX_KEY, MAX_RUN, MAX_VALUE
-from .sessions import Refused, Session, with_server
+from .sessions import Refused, Session, names_server, with_server
 
 EPILOG = """status:
-  0  with --port: committed, or there were no records; else: all lines were written
+  0  at a server: committed, or there were no records; else: all lines were written
   1  the server answered one of the lines otherwise: nothing was loaded
   2  the words of the command line are wrong, or there are more runs than one transaction can load
   3  a line is no record, or a key stands twice: nothing was sent
@@ -160,10 +160,10 @@ def main() -> int:
         return 0
     progress = Progress(NAME, runs.records(), runs.size())
     try:
-        if asked.port is None:
-            write(runs, progress)
+        if names_server(asked):
+            bring(with_server(asked), runs, progress, asked.hold, tries_of(asked))
         else:
-            bring(with_server(asked.port, asked.wait), runs, progress, asked.hold, tries_of(asked))
+            write(runs, progress)
     finally:
         progress.end()
     return 0

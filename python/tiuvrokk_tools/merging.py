@@ -283,7 +283,7 @@ def forget(ghosts: List[bytes], key: bytes) -> None:
 
 
 def key_of(word: bytes) -> bytes:
-    """A key as a trace spells it, in either version."""
+    """A key as a trace spells it, in any version."""
     found = KEY.fullmatch(word)
     if not found:
         raise ValueError
@@ -294,7 +294,7 @@ def followed(text: bytes) -> Merging:
     """Follows the text of a trace. The first line that is none of one ends all."""
     merging = Merging()
     lines = text.split(b"\n")
-    if lines[0] not in (b"TRACE 1", b"TRACE 2"):
+    if lines[0] not in (b"TRACE 1", b"TRACE 2", b"TRACE 3"):
         raise Stop(3, "line 1: it names no version of a trace")
     for number, line in enumerate(lines[1:], 2):
         if not line and number == len(lines):

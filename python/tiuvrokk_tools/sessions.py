@@ -1,5 +1,6 @@
 """A session of the protocol, with a server or with a program of one's own."""
 
+import argparse
 import contextlib
 import socket
 import subprocess
@@ -85,13 +86,24 @@ class Session:
             self.process.wait()
 
 
-def with_server(port: int, wait: int) -> Session:
-    """A session with the server at a port."""
-    place = f"port {port}"
+def names_server(asked: argparse.Namespace) -> bool:
+    """Whether the words name one."""
+    return asked.port is not None or asked.socket is not None
+
+
+def with_server(asked: argparse.Namespace) -> Session:
+    """A session with the server that the words name."""
+    place = asked.socket or f"port {asked.port}"
+    connection = socket.socket(socket.AF_UNIX if asked.socket is not None else socket.AF_INET)
+    connection.settimeout(asked.wait)
     try:
-        connection = socket.create_connection(("127.0.0.1", port), timeout=wait)
-        connection.setsockopt(socket.IPPROTO_TCP, socket.TCP_NODELAY, 1)
+        if asked.socket is not None:
+            connection.connect(asked.socket)
+        else:
+            connection.connect(("127.0.0.1", asked.port))
+            connection.setsockopt(socket.IPPROTO_TCP, socket.TCP_NODELAY, 1)
     except OSError as error:
+        connection.close()
         raise fault_of(place, error) from None
     return Session(place, connection.sendall, connection.makefile("rb"))
 

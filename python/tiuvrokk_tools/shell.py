@@ -1,4 +1,4 @@
-"""Speaks with a store at a terminal: with a server's by --port, else with one of its own, which ends with it.
+"""Speaks with a store at a terminal: with a server's by --port or --socket, else with one of its own, which ends with it.
 
 Lines are those of the protocol, their verbs in either case; HELP lists them, HELP VERB tells one. GET, SCAN, INS, REP, DEL and
 LOAD outside a transaction are one each. Rows are shown as a table. Beside them:
@@ -34,7 +34,7 @@ from .load import load, load_runs
 from .pieces import Pieces, Reading
 from .program import CLOSED, Parser, Stop, add_server, read_file, run_program, say, visible, write_all
 from .progress import Progress
-from .sessions import Refused, Session, shown, with_program, with_server
+from .sessions import Refused, Session, names_server, shown, with_program, with_server
 from .typed import spelled, words_of
 from .verbs import ALONE, VERBS, fault_of_line, help_of, help_of_all
 
@@ -418,7 +418,7 @@ def main() -> int:
     asked = words()
 
     def connect() -> Session:
-        return with_program([asked.store]) if asked.port is None else with_server(asked.port, asked.wait)
+        return with_server(asked) if names_server(asked) else with_program([asked.store])
 
     shell = Shell(connect, asked.raw, asked.escape)
     is_typed = os.isatty(0) and os.isatty(1)

@@ -40,6 +40,12 @@ TABLE: List[Tuple[str, str, str]] = [
         "the store to itself, for n milliseconds at most, from 1 to 60,000",
         "OK, or ERR HELD s, s being a session that holds, or has a transaction that didn't end in so long",
     ),
+    (
+        "WHO",
+        "the sessions that have a transaction active",
+        "WHO n s:t:q s:t:q .., n sessions, each with its number, its transaction's and the seconds since its last line",
+    ),
+    ("END s", "the end of session s, as if its client were gone", "OK, or ERR SESSION where none has that number"),
     ("QUIT", "the session's end", "BYE; bytes after it are not answered"),
 ]
 VERBS: List[str] = [line.partition(" ")[0] for line, _, _ in TABLE]
@@ -58,7 +64,7 @@ COMMANDS: List[Tuple[str, str]] = [
     (".quit", "ends, as QUIT, EXIT and the end of the input do"),
 ]
 """The commands of a shell."""
-WORDS = {"k": "the key", "lo": "the least key", "hi": "the greatest key", "v": "the value", "n": "the number"}
+WORDS = {"k": "the key", "lo": "the least key", "hi": "the greatest key", "v": "the value", "n": "the number", "s": "the number"}
 
 
 def help_of_all() -> str:
@@ -114,6 +120,8 @@ def fault_of_word(verb: str, name: str, word: str, forms: List[str]) -> str:
     if name == "n":
         most = 1000 if verb == "SCAN" else 60_000 if verb == "HOLD" else 64
         return "" if re.fullmatch("[1-9][0-9]{0,5}", word) and int(word) <= most else f"{word} is no number from 1 to {most:,}"
+    if name == "s":
+        return "" if re.fullmatch("[0-9]{1,20}", word) else f"{word} is no number"
     if name == "k=v":
         key, equals, value = word.partition("=")
         if not equals:

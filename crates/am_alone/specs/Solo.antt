@@ -15,7 +15,7 @@ use Rattle.am_core.specs.Memory.{may_want_memory}
 use Rattle.am_core.specs.StoreSteps.{Extends}
 use Rattle.am_dialogue.specs.Exchanges.{Exchange, with_torn}
 use Rattle.am_dialogue.specs.Backends.{BackendMeaning}
-use Rattle.am_dialogue.specs.Alone.{AnswersAlone, AloneHolds}
+use Rattle.am_dialogue.specs.Alone.{AnswersAlone, AloneHolds, AloneTells, alone_end}
 use Rattle.am_dialogue.specs.Responses.{response_text}
 use Rattle.am_dialogue.specs.Say.{Says}
 use Rattle.am_wire.specs.Replies.{IsOneLine}
@@ -61,6 +61,8 @@ solo_meaning = record {
   steps = SoloSteps;
   shows = SoloShows;
   holds = λ s millis answer. AloneHolds answer;
+  tells = λ s told. AloneTells s.active told;
+  ends = λ s session answer. answer ≡ alone_end session;
   lapses = ⊥;
 }
 

@@ -13,8 +13,8 @@ use std::alloc::Global;
 use std::rt::Clock;
 use std::sync::Wait;
 
-/// Answers the lines of a source up to the first QUIT, each by one line, on a store that begins with no records, and
-/// merges once after each answer where `auto` is above 0. The sink has nothing that isn't sent on.
+/// Answers the lines of a source up to the first QUIT or END 0, each by one line, on a store that begins with no
+/// records, and merges once after each answer where `auto` is above 0. The sink has nothing that isn't sent on.
 ///
 /// There is one sound trace whose steps are those of the lines, the merges and the last abort, and each response is one
 /// line, the text of what was answered there. All answers but those to MERGE and CLEAN are those of the plain map,

@@ -6,7 +6,7 @@ ghost use Rattle.am_alone.specs.Solo.{solo_meaning};
 
 use am_btree::BTree;
 use am_core::Store;
-use am_dialogue::{HoldAnswer, active_behind};
+use am_dialogue::{ActiveSession, ActiveSessions, EndAnswer, HoldAnswer, active_behind};
 use am_record::{HashKey, NoMemory, Reply, Step};
 use am_session::Backend;
 use std::alloc::Global;
@@ -48,7 +48,10 @@ impl SoloStore {
 impl Backend for SoloStore {
     ghost means = { solo_meaning };
 
-    fn call<W: Wait>(&mut self, _rt: &W, step: Step) -> Reply {
+    // Nobody is kept out.
+    type Held = ();
+
+    fn call<W: Wait>(&mut self, _rt: &W, _held: &mut Option<()>, step: Step) -> Reply {
         let reply = self.store.step(step);
         self.active = active_behind(self.active, &reply);
         reply
@@ -61,6 +64,26 @@ impl Backend for SoloStore {
     // Nobody else is there.
     fn hold<W: Wait + Clock>(&self, _rt: &W, _millis: u64) -> HoldAnswer {
         HoldAnswer::Granted
+    }
+
+    fn who<W: Wait + Clock>(&self, _rt: &W, alloc: Global) -> Result<ActiveSessions, NoMemory> {
+        let mut sessions = Vec::new(alloc);
+        if let Some(tx) = self.active {
+            sessions.push(ActiveSession {
+                session: 0,
+                tx,
+                seconds: 0,
+            })?;
+        }
+        Ok(ActiveSessions::new(sessions))
+    }
+
+    fn end<W: Wait>(&self, _rt: &W, session: u64) -> EndAnswer {
+        if session == 0 {
+            EndAnswer::EndsItself
+        } else {
+            EndAnswer::NoSession
+        }
     }
 
     // Nobody waits for what it holds.

@@ -6,11 +6,13 @@ use Rattle.am_record.specs.declared.step.Reply.{Reply}
 use Rattle.am_serial.specs.Trace.{Trace}
 use Rattle.am_audit.specs.declared.trace_audit.Audit.{Audit}
 use Rattle.am_audit.specs.AuditStates.{HasJudged, CanJudge}
-use Rattle.am_trace_text.specs.Lines.{IsEvent, AreEvents, IsTextOf, header, with_lf, event_lines, event_words}
+use Rattle.am_trace_text.specs.Lines.{IsEvent, AreEvents, header, with_lf, event_lines, event_words}
 use Rattle.am_trace_text.specs.Lines.{trace_text}
+use Rattle.am_trace_text.specs.Versions.{most_runs_of}
 use Rattle.am_trace_text.specs.declared.version.Version.{Version}
-use Rattle.am_trace_text.specs.declared.version.Version.TheVariants.{One, Two}
+use Rattle.am_trace_text.specs.declared.version.Version.TheVariants.{One, Two, Three}
 use Rattle.am_trace_text.proofs.WrittenLines.{all_behind, read_line}
+use Rattle.am_auditor.specs.Judgements.{HasText}
 
 -- the lines before the rest are those of events that were judged
 pub record IsReadTo (text : List ℕ) (v : Version) (rest : List ℕ) (line : ℕ) (audit : Audit) : Type 0 where
@@ -18,7 +20,7 @@ pub record IsReadTo (text : List ℕ) (v : Version) (rest : List ℕ) (line : �
   pub events : AreEvents v seen
   pub spelled : text ≡ trace_text v seen ++ rest
   pub count : line ≡ length seen + 2
-  pub judged : HasJudged 65535 audit seen
+  pub judged : HasJudged (most_runs_of v) audit seen
 
 lines_long : (v : Version) (trace : Trace) → length trace ≤ length (event_lines v trace)
 lines_long v [] = omega arith
@@ -31,6 +33,7 @@ lines_long v (e ∷ trace) =
 header_long : (v : Version) → 8 ≤ length (header v)
 header_long One = omega arith
 header_long Two = omega arith
+header_long Three = omega arith
 
 -- a text has more bytes than lines
 pub is_short : (text : List ℕ) (v : Version) (rest : List ℕ) (line : ℕ) (audit : Audit) →
@@ -46,7 +49,7 @@ is_short text v rest line audit h =
 pub can_judge : (text : List ℕ) (v : Version) (rest : List ℕ) (line : ℕ) (audit : Audit) → length text < 2 ^ 63 →
     IsReadTo text v rest line audit → CanJudge audit
 can_judge text v rest line audit long h = record {
-  most_runs = 65535;
+  most_runs = most_runs_of v;
   seen = h.seen;
   judged = h.judged;
   room =
@@ -58,7 +61,8 @@ can_judge text v rest line audit long h = record {
 pub one_more : (text : List ℕ) (v : Version) (rest further : List ℕ) (line : ℕ) (step : Step) (reply : Reply)
     (audit now : Audit) → IsReadTo text v rest line audit → IsEvent v (step, reply) →
     rest ≡ with_lf (event_words v (step, reply)) ++ further →
-    ((seen : Trace) → HasJudged 65535 audit seen → HasJudged 65535 now (seen ++ (step, reply) ∷ [])) →
+    ((seen : Trace) → HasJudged (most_runs_of v) audit seen →
+    HasJudged (most_runs_of v) now (seen ++ (step, reply) ∷ [])) →
     IsReadTo text v further (line + 1) now
 one_more text v rest further line step reply audit now h event is goes = record {
   seen = h.seen ++ (step, reply) ∷ [];
@@ -73,9 +77,13 @@ one_more text v rest further line step reply audit now h event is goes = record 
 }
 
 pub is_whole : (text : List ℕ) (v : Version) (rest : List ℕ) (line : ℕ) (audit : Audit)
-    (h : IsReadTo text v rest line audit) → rest ≡ [] → IsTextOf text h.seen
-is_whole text v rest line audit h none = record {
-  version = v;
-  events = h.events;
-  spelled = h.spelled ∙ ap (λ l. trace_text v h.seen ++ l) none ∙ append-nil (trace_text v h.seen);
-}
+    (h : IsReadTo text v rest line audit) → rest ≡ [] → HasText text audit
+is_whole text v rest line audit h none = (
+  h.seen,
+  record {
+    version = v;
+    events = h.events;
+    spelled = h.spelled ∙ ap (λ l. trace_text v h.seen ++ l) none ∙ append-nil (trace_text v h.seen);
+  },
+  h.judged,
+)

@@ -5,12 +5,12 @@ ghost use Rattle.am_sink.specs.SinkWrites.{Wrote};
 ghost use Rattle.std.specs.Prelude.{◌≢◌, ℕ, List, IfErr};
 ghost use Rattle.am_serial.specs.Trace.{Trace};
 ghost use Rattle.am_trace_text.specs.Lines.{IsTextOf};
+ghost use Rattle.am_trace_text.specs.Versions.{most_runs_of};
 ghost use Rattle.am_audit.specs.Faults.{IsTrueFault};
 ghost use Rattle.am_auditor.specs.Judgements.{IsTrueOf, SaysJudgement, IsBegun, judgement_line, judgement_status};
 ghost use Rattle.am_auditor.specs.Judgements.{HasText};
 
 use am_audit::{Audit, Fault, FaultKind};
-use am_record::MAX_RUNS;
 use am_sink::{Failed, Sink, give_all};
 use am_text::Text;
 use am_trace_read::{read_header, read_line};
@@ -47,8 +47,8 @@ fn judge_text(alloc: Global, text: &[u8]) -> Judgement
 
 /// What is to be said of a trace with the fault.
 pub(crate) fn judgement_of(fault: Fault) -> Judgement
-    ensures told { (text : List ℕ) (trace : Trace) → IsTextOf text trace → IsTrueFault 65535 trace fault →
-        IsTrueOf text result }
+    ensures told { (text : List ℕ) (trace : Trace) (it : IsTextOf text trace) →
+        IsTrueFault (most_runs_of it.version) trace fault → IsTrueOf text result }
     ensures others { judgement_status result ≢ 0 }
 {
     match fault {
@@ -69,7 +69,7 @@ pub(crate) fn audit_text(alloc: Global, text: &[u8]) -> Result<Audit, Judgement>
     let Some((version, mut rest)) = read_header(text) else {
         return Err(Judgement::Bad(1));
     };
-    let Ok(mut audit) = Audit::new(alloc, MAX_RUNS) else {
+    let Ok(mut audit) = Audit::new(alloc, version.most_runs()) else {
         return Err(Judgement::NoMemory);
     };
     let _bytes = text.len();

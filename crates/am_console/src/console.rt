@@ -1,6 +1,6 @@
 //! What a server that stays says on standard error while it runs.
 
-ghost use Rattle.std.specs.Prelude.{◌≡◌, not};
+ghost use Rattle.std.specs.Prelude.{◌≡◌, false, not};
 ghost use Rattle.am_console.specs.Logs.{is_due};
 
 use crate::log::log_text;
@@ -23,29 +23,33 @@ fn is_due(is_logged: bool, is_last: bool, past: u64) -> bool
     is_logged && (is_last || past >= LOG_SECONDS)
 }
 
-/// Says once what goes wrong, and each minute and at the end how the server does, where that is asked for.
+/// Says once what goes wrong, and each minute and at the end how the server does, where that is asked for. What becomes
+/// of a bounded server is said at its end.
 #[derive(Drop)]
 pub struct Console<'a, R> {
     rt: &'a R,
     outbox: &'a Outbox,
     is_logged: bool,
+    stays: bool,
     told_at: Option<Instant>,
     told_accept: bool,
     told_cut: bool,
 }
 
 impl<'a, R: AllocGlobal + Eprint + Clock + Wait> Console<'a, R> {
-    /// Of a bounded server nothing is said while it runs.
+    /// Nothing is told yet. Of a bounded server it isn't said that its trace is cut.
     pub fn new(rt: &'a R, outbox: &'a Outbox, listening: &Listening<'_>) -> Console<'a, R>
         ensures logged { result.is_logged ≡ listening.now.is_logged }
-        ensures told { (result.told_accept ≡ not listening.now.stays) × (result.told_cut ≡ not listening.now.stays) }
+        ensures stays { result.stays ≡ listening.now.stays }
+        ensures told { (result.told_accept ≡ false) × (result.told_cut ≡ not listening.now.stays) }
     {
         Console {
             rt,
             outbox,
             is_logged: listening.is_logged,
+            stays: listening.stays,
             told_at: Instant::now(rt).ok(),
-            told_accept: !listening.stays,
+            told_accept: false,
             told_cut: !listening.stays,
         }
     }
@@ -77,14 +81,16 @@ impl<'a, R: AllocGlobal + Eprint + Clock + Wait> Console<'a, R> {
             let _ = eprintln!(self.rt; "amserve: a connection: {why}");
         }
         self.told_accept = true;
-        let _ = eprintln!(self.rt; "{}", ListenFault::CannotAccept.words());
+        if self.stays {
+            let _ = eprintln!(self.rt; "{}", ListenFault::CannotAccept.words());
+        }
     }
 
     // Says once that the trace is cut, unless its file said so.
     fn tell_cut(&mut self, counts: &Counts) {
         if counts.is_cut && !self.outbox.is_failed() && !self.told_cut {
             self.told_cut = true;
-            let _ = eprintln!(self.rt; "{}", ListenFault::CannotWriteTrace.words());
+            let _ = eprintln!(self.rt; "{}", ListenFault::CannotWriteTrace(None).words());
         }
     }
 }

@@ -1,10 +1,11 @@
 //! The file of a server's trace, from its opening until it has its name.
 
-ghost use Rattle.std.specs.Prelude.{◌≡◌, IfOk, is_some, true, false, None, Ok, Err};
+ghost use Rattle.std.specs.Prelude.{◌≡◌, ◌≢◌, IfOk, is_some, true, false, None, Ok, Err};
 
 use crate::ending::remove_socket;
 use am_serve_command::Listening;
 use am_trace_file::{GrowingFile, ListenFault, Outbox, Sending, TraceFile};
+use am_trace_text::Version;
 use am_trace_writer::{PieceTaker, TraceWriter};
 use std::fs::File;
 use std::rt::Files;
@@ -16,9 +17,17 @@ pub type Writer<'a, R> = TraceWriter<Sending<'a, R>>;
 /// The file for the trace, where one is named. It still has what it had.
 #[derive(Drop)]
 pub struct OpenedTrace {
-    opened: Option<(TraceFile, File)>,
-    // The name by which the file is told.
-    name: Option<String>,
+    opened: Option<OpenedFile>,
+    // Whether its server stays, and so says at once that it can't be written any further.
+    stays: bool,
+}
+
+#[derive(Drop)]
+struct OpenedFile {
+    trace: TraceFile,
+    file: File,
+    // The name by which it is told.
+    name: String,
 }
 
 impl OpenedTrace {
@@ -28,25 +37,27 @@ impl OpenedTrace {
     /// # Errors
     /// CannotWriteTrace, where the system refuses it; NoMemory, where memory was refused.
     #[inline(never)]
-    pub fn open<R: AllocGlobal + Files<File = File> + Eprint>(
+    pub fn open<R: AllocGlobal + Files<File = File>>(
         rt: &R,
         listening: &Listening<'_>,
     ) -> Result<OpenedTrace, ListenFault>
-        ensures { IfOk result (λ trace. is_some trace.opened ≡ is_some listening.now.trace) }
+        ensures named { IfOk result (λ trace. is_some trace.opened ≡ is_some listening.now.trace) }
+        ensures stays { IfOk result (λ trace. trace.stays ≡ listening.now.stays) }
     {
-        let name = name_to_tell(rt, listening)?;
         let opened = match listening.trace {
-            Some(path) if listening.stays => Some(TraceFile::open_or_say(rt, path)?),
-            Some(path) => Some(TraceFile::open_beside(rt, path)?),
+            Some(path) => Some(open_file(rt, path, listening.stays)?),
             None => None,
         };
-        Ok(OpenedTrace { opened, name })
+        Ok(OpenedTrace {
+            opened,
+            stays: listening.stays,
+        })
     }
 
     /// Removes what stands beside the file.
     pub fn forget<R: Files>(&self, rt: &R) {
-        if let Some((file, _)) = &self.opened {
-            file.forget(rt);
+        if let Some(opened) = &self.opened {
+            opened.trace.forget(rt);
         }
     }
 
@@ -54,30 +65,31 @@ impl OpenedTrace {
     pub fn give_to<R: Wait>(self, rt: &R, outbox: &Outbox) -> Option<TraceFile>
         ensures { is_some result ≡ is_some self.opened }
     {
-        let OpenedTrace { opened, name } = self;
-        let (file, grown) = opened?;
-        outbox.give_file(rt, GrowingFile::new(grown, name));
-        Some(file)
+        let OpenedTrace { opened, stays } = self;
+        let OpenedFile { trace, file, name } = opened?;
+        outbox.give_file(rt, GrowingFile::new(file, name, stays));
+        Some(trace)
     }
 }
 
-// The name by which the file is told: a bounded server tells none.
-fn name_to_tell<R: AllocGlobal>(
+// Opens the file of that name, which grows, or gets its name at the end.
+fn open_file<R: AllocGlobal + Files<File = File>>(
     rt: &R,
-    listening: &Listening<'_>,
-) -> Result<Option<String>, ListenFault>
-    ensures { listening.now.stays ≡ false → result ≡ Ok None }
-{
-    match listening.trace {
-        Some(path) if listening.stays => match String::from_str(rt.alloc(), path) {
-            Ok(name) => Ok(Some(name)),
-            Err(_) => Err(ListenFault::NoMemory),
-        },
-        _ => Ok(None),
-    }
+    path: &str,
+    grows: bool,
+) -> Result<OpenedFile, ListenFault> {
+    let Ok(name) = String::from_str(rt.alloc(), path) else {
+        return Err(ListenFault::NoMemory);
+    };
+    let (trace, file) = if grows {
+        TraceFile::open_growing(rt, path)?
+    } else {
+        TraceFile::open_beside(rt, path)?
+    };
+    Ok(OpenedFile { trace, file, name })
 }
 
-/// The writer of the trace, where a file is named, which has written its first line.
+/// The writer of the trace, where a file is named, which has written its first line, that of version 2 or 3.
 ///
 /// # Errors
 /// CannotWriteTrace, where the server stays and the line can't be written; nothing is left of the socket then.
@@ -86,16 +98,18 @@ pub fn begin_trace<'a, R: AllocGlobal + Files + Eprint + Wait>(
     rt: &'a R,
     listening: &Listening<'_>,
     outbox: &'a Outbox,
+    version: Version,
 ) -> Result<Option<Writer<'a, R>>, ListenFault>
+    requires { version ≢ Version.One }
     ensures { IfOk result (λ writer. is_some writer ≡ is_some listening.now.trace) }
 {
     if listening.trace.is_none() {
         return Ok(None);
     }
-    let writer = TraceWriter::begin(rt.alloc(), Sending::new(rt, outbox));
+    let writer = TraceWriter::begin(rt.alloc(), Sending::new(rt, outbox), version);
     if listening.stays && writer.is_cut() {
         remove_socket(rt, listening);
-        return Err(ListenFault::CannotWriteTrace);
+        return Err(ListenFault::CannotWriteTrace(None));
     }
     Ok(Some(writer))
 }
@@ -116,12 +130,12 @@ pub fn store_trace<R: Files>(
     file: Option<&TraceFile>,
     is_cut: bool,
 ) -> Result<(), ListenFault>
-    ensures cut { is_cut ≡ true → result ≡ Err ListenFault.CannotWriteTrace }
+    ensures cut { is_cut ≡ true → result ≡ Err (ListenFault.CannotWriteTrace None) }
     ensures unnamed { file.entry ≡ None → is_cut ≡ false → result ≡ Ok tt }
 {
     if is_cut {
         forget_trace(rt, file);
-        return Err(ListenFault::CannotWriteTrace);
+        return Err(ListenFault::CannotWriteTrace(None));
     }
     match file {
         Some(file) => file.keep(rt),

@@ -1,7 +1,7 @@
 -- Each answer of a dialogue is one line: what the store tells was read from lines.
 use Rattle.std.proofs.Common.{◌≡◌, inl, inr, cond, ℕ, List, [], ◌∷◌, ◌++◌, Bool, true, false, Option, Some, None}
 use Rattle.std.proofs.Common.{Result, Ok, Err, refl, sym, ap, subst, append_assoc}
-use Rattle.std.specs.Prelude.{codes, decimal}
+use Rattle.std.specs.Prelude.{codes, decimal, length}
 use Rattle.std.specs.List.{AllByRecursion}
 use Rattle.am_record.specs.Records.{Records}
 use Rattle.am_record.specs.declared.step.Op.{Op}
@@ -26,20 +26,24 @@ use Rattle.am_dialogue.specs.ParsedLine.{Line, MayParse, parsed_of}
 use Rattle.am_dialogue.specs.Session.{SessionState, staged_after}
 use Rattle.am_dialogue.specs.Actions.{may_wait, with_staged, staged_left, commit_action, request_action, action_for}
 use Rattle.am_dialogue.specs.Actions.{no_room, staged_asked, session_behind_line, IsActionFor, is_hold_time}
-use Rattle.am_dialogue.specs.Responses.{response_text, line}
+use Rattle.am_stream.specs.Lines.{HasNoLf}
+use Rattle.am_dialogue.specs.Responses.{response_text, line, active_words, actives_words, who_response}
+use Rattle.am_dialogue.specs.declared.active_sessions.ActiveSession.{ActiveSession}
 use Rattle.am_dialogue.specs.Exchanges.{Exchange}
 use Rattle.am_dialogue.specs.Backends.{BackendMeaning}
 use Rattle.am_dialogue.specs.Conversation.{SessionPoint, session_at, TakesStep, AnswersAction, AnswersLine}
 use Rattle.am_dialogue.specs.declared.lines.ParsedLine.{ParsedLine}
 use Rattle.am_dialogue.specs.declared.lines.ParsedLine.TheVariants as said
 use Rattle.am_dialogue.specs.declared.action.Action.{Action}
-use Rattle.am_dialogue.specs.declared.action.Action.TheVariants.{Answer, Take, TellSeen, AskHold}
+use Rattle.am_dialogue.specs.declared.action.Action.TheVariants.{Answer, Take, TellSeen, AskHold, TellWho, AskEnd}
 use Rattle.am_dialogue.specs.declared.response.Response.{Response}
 use Rattle.am_dialogue.specs.declared.response.Response.TheVariants.{TooLong, Faulty, NoTransaction, Active, Staged}
 use Rattle.am_dialogue.specs.declared.response.Response.TheVariants.{TooManyStaged, StillStaged, Replied, Seen}
-use Rattle.am_dialogue.specs.declared.response.Response.TheVariants.{Hold, Lapsed}
+use Rattle.am_dialogue.specs.declared.response.Response.TheVariants.{Hold, Who, End, Lapsed}
 use Rattle.am_dialogue.specs.declared.response.HoldAnswer.{HoldAnswer}
 use Rattle.am_dialogue.specs.declared.response.HoldAnswer.TheVariants.{Granted, OutOfBounds, HeldBy}
+use Rattle.am_dialogue.specs.declared.response.EndAnswer.{EndAnswer}
+use Rattle.am_dialogue.specs.declared.response.EndAnswer.TheVariants.{Ends, EndsItself, NoSession}
 use Rattle.am_dialogue.proofs.Conversations.{Between, HoldsOfLines}
 use Rattle.am_dialogue.proofs.VisibleMaps.{all_append}
 use Rattle.am_dialogue.proofs.VisibleStores.{IsVisibleStore, IsVisibleStep, after_visible, tells_visible}
@@ -98,6 +102,43 @@ hold_line (HeldBy session) = (
   refl,
 )
 
+-- a word and a number more
+then_free : (xs word : List ℕ) (n : ℕ) → HasNoLf xs → is_free word ≡ true → HasNoLf ((xs ++ word) ++ decimal n)
+then_free xs word n h free = HasNoLf-append (xs ++ word) (decimal n)
+    (HasNoLf-append xs word h (HasNoLf-free word free)) (HasNoLf-decimal n)
+
+active_free : (active : ActiveSession) → HasNoLf (active_words active)
+unfolding is_free
+active_free active = then_free (((codes " " ++ decimal active.session) ++ codes ":") ++ decimal active.tx) (codes ":")
+    active.seconds
+    (then_free (codes " " ++ decimal active.session) (codes ":") active.tx
+    (then_free [] (codes " ") active.session tt refl) refl)
+    refl
+
+actives_free : (sessions : List ActiveSession) → HasNoLf (actives_words sessions)
+actives_free [] = tt
+actives_free (active ∷ sessions) = HasNoLf-append (active_words active) (actives_words sessions) (active_free active)
+    (actives_free sessions)
+
+who_line : (sessions : List ActiveSession) → IsLine (Who sessions)
+unfolding is_free
+who_line sessions = (
+  (codes "WHO " ++ decimal (length sessions)) ++ actives_words sessions,
+  HasNoLf-append (codes "WHO " ++ decimal (length sessions)) (actives_words sessions)
+      (then_free [] (codes "WHO ") (length sessions) tt refl) (actives_free sessions),
+  refl,
+)
+
+who_answered : {E : Type 0} (told : Result (List ActiveSession) E) → IsLine (who_response told)
+who_answered (Ok sessions) = who_line sessions
+who_answered (Err refused) = fault_line fault.NoMemory
+
+end_line : (answer : EndAnswer) → IsLine (End answer)
+unfolding is_free
+end_line Ends = fixed (codes "OK") refl
+end_line EndsItself = fixed (codes "OK") refl
+end_line NoSession = fixed (codes "ERR SESSION") refl
+
 reply_line : (r : Reply) → TellsVisible r → IsLine (Replied r)
 reply_line r h = (words_of r, HasNoLf-words_of r h, refl)
 
@@ -139,6 +180,8 @@ IsVisibleDue (Answer response) = IsLine response
 IsVisibleDue (Take what) = IsVisibleStep what
 IsVisibleDue TellSeen = Unit {0}
 IsVisibleDue (AskHold millis) = Unit {0}
+IsVisibleDue TellWho = Unit {0}
+IsVisibleDue (AskEnd session) = Unit {0}
 
 hold_visible : (millis : ℕ) (b : Bool) → IsVisibleDue (cond b (AskHold millis) (Answer (Hold OutOfBounds)))
 hold_visible millis true = tt
@@ -170,6 +213,8 @@ request_visible None staged request.Seen v h = tt
 request_visible None staged (request.Hold millis) v h = hold_visible millis (is_hold_time millis)
 request_visible (Some tx) staged (request.Hold millis) v h = active_line
 request_visible (Some tx) staged request.Quit v h = none_line
+request_visible None staged request.Who v h = tt
+request_visible None staged (request.End session) v h = tt
 request_visible None staged asked v h = none_line
 request_visible (Some tx) staged asked v h = tt
 
@@ -275,6 +320,14 @@ module _ {B : Type 0} (means : BackendMeaning B) where
   )
   acts old new (AskHold millis) response events rest is a v = (
     subst IsLine (sym a.1) (hold_line a.0),
+    rests old new events rest a.2.1.0 (ap (λ (at : SessionPoint B). at.1) a.2.1.1) v,
+  )
+  acts old new TellWho response events rest is a v = (
+    subst IsLine (sym a.1) (who_answered a.0),
+    rests old new events rest a.2.1.0 (ap (λ (at : SessionPoint B). at.1) a.2.1.1) v,
+  )
+  acts old new (AskEnd session) response events rest is a v = (
+    subst IsLine (sym a.1) (end_line a.0),
     rests old new events rest a.2.1.0 (ap (λ (at : SessionPoint B). at.1) a.2.1.1) v,
   )
 

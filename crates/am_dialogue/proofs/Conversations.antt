@@ -1,6 +1,6 @@
 -- What goes for a backend's steps goes for its conversations.
 use Rattle.std.proofs.Common.{◌≡◌, ℕ, ◌==◌, List, [], ◌∷◌, ◌++◌, Bool, true, false, Option, Some, None, refl, sym, ap}
-use Rattle.std.proofs.Common.{subst, inl, inr, ◌∙◌}
+use Rattle.std.proofs.Common.{subst, inl, inr, ◌∙◌, Result}
 use Rattle.std.specs.Prelude.{MatchBool}
 use Rattle.am_record.specs.declared.step.Step.{Step}
 use Rattle.am_record.specs.declared.step.Step.TheVariants.{Abort, Merge}
@@ -13,9 +13,12 @@ use Rattle.am_dialogue.specs.Backends.{BackendMeaning}
 use Rattle.am_dialogue.specs.Conversation.{SessionPoint, Stays, TakesStep, AnswersAction, AnswersLine, MergesAfter}
 use Rattle.am_dialogue.specs.Conversation.{AnswersTorn, Converses, Leaves, AnswersAll}
 use Rattle.am_dialogue.specs.declared.action.Action.{Action}
-use Rattle.am_dialogue.specs.declared.action.Action.TheVariants.{Answer, Take, TellSeen, AskHold}
+use Rattle.am_dialogue.specs.declared.action.Action.TheVariants.{Answer, Take, TellSeen, AskHold, TellWho, AskEnd}
 use Rattle.am_dialogue.specs.declared.response.Response.{Response}
 use Rattle.am_dialogue.specs.declared.response.HoldAnswer.{HoldAnswer}
+use Rattle.am_dialogue.specs.declared.response.EndAnswer.{EndAnswer}
+use Rattle.am_dialogue.specs.declared.active_sessions.ActiveSession.{ActiveSession}
+use Rattle.am_record.specs.declared.memory.NoMemory.{NoMemory}
 
 -- ---- a map of backends that takes steps to steps takes conversations to conversations
 
@@ -27,6 +30,9 @@ pub record TakesSteps {B C : Type 0} (from : BackendMeaning B) (to : BackendMean
       to.shows (image old) session commits (image new)
   pub holds : (b : B) (millis : ℕ) (answer : HoldAnswer) → from.holds b millis answer →
       to.holds (image b) millis answer
+  pub tells : (b : B) (told : Result (List ActiveSession) NoMemory) → from.tells b told → to.tells (image b) told
+  pub ends : (b : B) (session : ℕ) (answer : EndAnswer) → from.ends b session answer →
+      to.ends (image b) session answer
   pub lapses : from.lapses → to.lapses
 
 module _ {B C : Type 0} (from : BackendMeaning B) (to : BackendMeaning C) (image : B → C)
@@ -52,6 +58,16 @@ module _ {B C : Type 0} (from : BackendMeaning B) (to : BackendMeaning C) (image
     a.0,
     a.1,
     (takes.holds old.0 millis a.0 a.2.0, (a.2.1.0, ap point a.2.1.1)),
+  )
+  action_taken old new TellWho response events a = (
+    a.0,
+    a.1,
+    (takes.tells old.0 a.0 a.2.0, (a.2.1.0, ap point a.2.1.1)),
+  )
+  action_taken old new (AskEnd session) response events a = (
+    a.0,
+    a.1,
+    (takes.ends old.0 session a.0 a.2.0, (a.2.1.0, ap point a.2.1.1)),
   )
 
   line_taken : (old new : SessionPoint B) (e : Exchange) (events : Trace) → AnswersLine from old e events new →
@@ -204,6 +220,10 @@ module _ {B : Type 0} (means : BackendMeaning B) (Goes : B → Trace → B → T
   action_goes old new TellSeen response events a = subst (λ (es : Trace). Goes old.0 es new.0) (sym a.3.1)
       (holds.shows old.0 new.0 a.0 a.1 a.3.0)
   action_goes old new (AskHold millis) response events a = still old.0 new.0 events a.2.1.0
+      (ap (λ (at : SessionPoint B). at.0) a.2.1.1)
+  action_goes old new TellWho response events a = still old.0 new.0 events a.2.1.0
+      (ap (λ (at : SessionPoint B). at.0) a.2.1.1)
+  action_goes old new (AskEnd session) response events a = still old.0 new.0 events a.2.1.0
       (ap (λ (at : SessionPoint B). at.0) a.2.1.1)
 
   abbrev between : Between B

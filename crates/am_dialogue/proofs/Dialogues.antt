@@ -1,7 +1,7 @@
 -- A session alone with a sound trace, exchange by exchange.
 use Rattle.std.proofs.Common.{◌≡◌, ◌⊎◌, inl, inr, ℕ, ◌+◌, ◌^◌, ◌≤◌, nat_le, List, [], ◌∷◌, ◌++◌, Bool, true}
 use Rattle.std.proofs.Common.{false, cond, ◌||◌, Option, Some, None, refl, sym, ap, ◌∙◌, subst, ⊎_elim, arith}
-use Rattle.std.proofs.Common.{append_assoc}
+use Rattle.std.proofs.Common.{append_assoc, Ok, Err}
 use Rattle.std.specs.Prelude.{MatchOption, MatchBool}
 use Rattle.std.proofs.lemmas.Bool.{true≢false, le-leb, lt-leb}
 use Rattle.std.proofs.lemmas.Cmp.{nat_eq_equiv}
@@ -24,7 +24,7 @@ use Rattle.am_dialogue.specs.Actions.{may_wait, with_staged, staged_left, stage_
 use Rattle.am_dialogue.specs.Actions.{session_behind_line, no_room, IsActionFor, is_hold_time}
 use Rattle.am_dialogue.specs.Exchanges.{Exchange}
 use Rattle.am_dialogue.specs.Conversation.{SessionPoint, session_at, Stays, TakesStep, AnswersAction, AnswersLine}
-use Rattle.am_dialogue.specs.Alone.{Alone, alone_after, alone_meaning}
+use Rattle.am_dialogue.specs.Alone.{Alone, alone_after, alone_meaning, alone_actives, alone_end}
 use Rattle.am_dialogue.specs.Say as say
 use Rattle.am_dialogue.specs.Say.{refusal_due, reply_due, refused_or, state_did, wants_memory, response_due}
 use Rattle.am_dialogue.specs.Say.{state_after_line, state_refused, is_load_line, IsSaid, SaysFrom}
@@ -34,10 +34,10 @@ use Rattle.am_text.specs.declared.fault.LineFault.TheVariants as fault
 use Rattle.am_dialogue.specs.declared.lines.ParsedLine.{ParsedLine}
 use Rattle.am_dialogue.specs.declared.lines.ParsedLine.TheVariants as said
 use Rattle.am_dialogue.specs.declared.action.Action.{Action}
-use Rattle.am_dialogue.specs.declared.action.Action.TheVariants.{Answer, TellSeen, AskHold}
+use Rattle.am_dialogue.specs.declared.action.Action.TheVariants.{Answer, TellSeen, AskHold, TellWho, AskEnd}
 use Rattle.am_dialogue.specs.declared.response.Response.{Response}
 use Rattle.am_dialogue.specs.declared.response.Response.TheVariants as response
-use Rattle.am_dialogue.specs.declared.response.Response.TheVariants.{Replied, Seen, Faulty, Hold}
+use Rattle.am_dialogue.specs.declared.response.Response.TheVariants.{Replied, Seen, Faulty, Hold, Who, End}
 use Rattle.am_dialogue.specs.declared.response.HoldAnswer.TheVariants.{Granted, OutOfBounds}
 use Rattle.am_record.specs.Interval.{Interval}
 use Rattle.am_dialogue.proofs.Conversations.{Between, HoldsOfLines}
@@ -113,6 +113,28 @@ holds_alone w millis true says same r own rest at' a = at_once w w.staged (said.
     (Hold Granted) refl says same r own rest at' (a.1 ∙ ap Hold a.2.0, a.2.1)
 holds_alone w millis false says same r own rest at' a = at_once w w.staged (said.Asked (request.Hold millis))
     (Hold OutOfBounds) refl says same r own rest at' a
+
+-- who has a transaction active, where that is the session itself or nobody; memory may be refused
+tells_alone : (w : Where) → response_due (state_at w) (said.Asked request.Who) ≡
+    Some (Who (alone_actives (alone_at w).active)) →
+    state_at w ≡ state_after_line (state_at w) (said.Asked request.Who) →
+    (r : Response) (own rest : Trace) (at' : SessionPoint Alone) →
+    AnswersAction alone_meaning (point_at w) TellWho r own at' → Runs 65535 (machine_at w) (own ++ rest) →
+    Leads w (said.Asked request.Who) r rest at'
+tells_alone w says same r own rest at' (Ok told, is, (tells, stays)) = at_once w w.staged (said.Asked request.Who)
+    (Who (alone_actives (alone_at w).active)) refl says same r own rest at' (is ∙ ap Who tells, stays)
+tells_alone w says same r own rest at' (Err refused, is, (tells, stays)) = refused_line w (said.Asked request.Who) r own
+    rest at' (is, stays)
+
+-- who would end a session, and is alone
+ends_alone : (w : Where) (number : ℕ) → response_due (state_at w) (said.Asked (request.End number)) ≡
+    Some (End (alone_end number)) →
+    state_at w ≡ state_after_line (state_at w) (said.Asked (request.End number)) →
+    (r : Response) (own rest : Trace) (at' : SessionPoint Alone) →
+    AnswersAction alone_meaning (point_at w) (AskEnd number) r own at' → Runs 65535 (machine_at w) (own ++ rest) →
+    Leads w (said.Asked (request.End number)) r rest at'
+ends_alone w number says same r own rest at' (answer, is, (ends, stays)) = at_once w w.staged
+    (said.Asked (request.End number)) (End (alone_end number)) refl says same r own rest at' (is ∙ ap End ends, stays)
 
 -- a step that is told by a reply, and by what the machine may do
 abbrev After : Where → Step → Reply → Trace → Type 0
@@ -424,6 +446,8 @@ module _ (begun commits runs : ℕ) (m : PlainMap) (staged : Records) where
       (cleans free range limit)
   leads_free request.Seen = shown free refl refl
   leads_free (request.Hold millis) = holds_alone free millis (is_hold_time millis) refl refl
+  leads_free request.Who = tells_alone free refl refl
+  leads_free (request.End number) = ends_alone free number refl refl
   leads_free asked = at_once free staged (said.Asked asked) response.NoTransaction refl refl refl
 
 -- with one
@@ -455,6 +479,8 @@ module _ (begun commits runs : ℕ) (m : PlainMap) (body : List Answered) where
     leads_busy request.Seen = shown held refl refl
     leads_busy (request.Hold millis) = at_once held staged (said.Asked (request.Hold millis)) response.Active refl refl
         refl
+    leads_busy request.Who = tells_alone held refl refl
+    leads_busy (request.End number) = ends_alone held number refl refl
     leads_busy request.Quit = at_once held staged (said.Asked request.Quit) response.NoTransaction refl refl refl
 
 leads : (begun commits runs : ℕ) (m : PlainMap) (own : Option (List Answered)) (staged : Records) (h : ParsedLine) →

@@ -6,3 +6,4 @@ pub mod VisibleStores
 pub mod AnsweredLines
 pub mod FoundMemory
 pub mod StagedLines
+mod WhoTexts

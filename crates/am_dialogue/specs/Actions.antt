@@ -13,7 +13,7 @@ use Rattle.am_record.specs.declared.step.Reply.TheVariants.{Aborted}
 use Rattle.am_text.specs.declared.fault.LineFault.TheVariants as fault
 use Rattle.am_wire.specs.declared.request.Request.{Request}
 use Rattle.am_wire.specs.declared.request.Request.TheVariants.{Begin, Do, Stage, Commit, Abort, Merge, Clean, Seen}
-use Rattle.am_wire.specs.declared.request.Request.TheVariants.{Hold, Quit}
+use Rattle.am_wire.specs.declared.request.Request.TheVariants.{Hold, Who, End, Quit}
 use Rattle.am_dialogue.specs.Session.{SessionState}
 use Rattle.am_dialogue.specs.declared.lines.ParsedLine.{ParsedLine}
 use Rattle.am_dialogue.specs.declared.lines.ParsedLine.TheVariants as said
@@ -21,7 +21,7 @@ use Rattle.am_dialogue.specs.declared.response.Response.{Response}
 use Rattle.am_dialogue.specs.declared.response.Response.TheVariants as response
 use Rattle.am_dialogue.specs.declared.response.HoldAnswer.TheVariants.{OutOfBounds}
 use Rattle.am_dialogue.specs.declared.action.Action.{Action}
-use Rattle.am_dialogue.specs.declared.action.Action.TheVariants.{Answer, Take, TellSeen, AskHold}
+use Rattle.am_dialogue.specs.declared.action.Action.TheVariants.{Answer, Take, TellSeen, AskHold, TellWho, AskEnd}
 
 -- ---- staged records
 
@@ -80,6 +80,8 @@ request_action active staged (Clean range limit) = Take (step.Clean range limit)
 request_action active staged Seen = TellSeen
 request_action None staged (Hold millis) = hold_action millis
 request_action (Some tx) staged (Hold millis) = Answer response.Active
+request_action active staged Who = TellWho
+request_action active staged (End session) = AskEnd session
 request_action active staged Quit = Answer response.NoTransaction
 
 abbrev pub action_for : SessionState → ParsedLine → Action

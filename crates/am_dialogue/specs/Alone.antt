@@ -1,5 +1,6 @@
 -- A session alone: its backend may give any reply.
-use Rattle.std.specs.Prelude.{◌≡◌, ℕ, ◌+◌, List, Option, None}
+use Rattle.std.specs.Prelude.{◌≡◌, ℕ, ◌+◌, ◌==◌, List, [], ◌∷◌, Option, Some, None, IsSome, Result, Ok, Err, cond}
+use Rattle.am_record.specs.declared.memory.NoMemory.{NoMemory}
 use Rattle.am_record.specs.Sessions.{active_after}
 use Rattle.am_record.specs.declared.step.Step.{Step}
 use Rattle.am_record.specs.declared.step.Step.TheVariants.{Commit}
@@ -9,6 +10,9 @@ use Rattle.am_serial.specs.Trace.{Trace}
 use Rattle.am_dialogue.specs.Exchanges.{Exchange}
 use Rattle.am_dialogue.specs.declared.response.HoldAnswer.{HoldAnswer}
 use Rattle.am_dialogue.specs.declared.response.HoldAnswer.TheVariants.{Granted}
+use Rattle.am_dialogue.specs.declared.response.EndAnswer.{EndAnswer}
+use Rattle.am_dialogue.specs.declared.response.EndAnswer.TheVariants.{EndsItself, NoSession}
+use Rattle.am_dialogue.specs.declared.active_sessions.ActiveSession.{ActiveSession}
 use Rattle.am_dialogue.specs.Backends.{BackendMeaning}
 use Rattle.am_dialogue.specs.Conversation.{AnswersAll}
 
@@ -39,12 +43,28 @@ AloneShows old session commits new = (session ≡ 0) × (commits ≡ old.commits
 abbrev pub AloneHolds : HoldAnswer → Type 0
 AloneHolds answer = answer ≡ Granted
 
+-- its own transaction is the only one, and the line that asks is its last
+abbrev pub alone_actives : Option ℕ → List ActiveSession
+alone_actives None = []
+alone_actives (Some tx) = record { session = 0; tx = tx; seconds = 0 } ∷ []
+
+-- memory may be refused where there is something to tell
+abbrev pub AloneTells : Option ℕ → Result (List ActiveSession) NoMemory → Type 0
+AloneTells active (Ok told) = told ≡ alone_actives active
+AloneTells active (Err refused) = IsSome active
+
+-- its number is 0, and nobody else is there
+abbrev pub alone_end : ℕ → EndAnswer
+alone_end session = cond (session == 0) EndsItself NoSession
+
 abbrev pub alone_meaning : BackendMeaning Alone
 alone_meaning = record {
   active = λ a. a.active;
   steps = λ old step reply new. new ≡ alone_after old step reply;
   shows = AloneShows;
   holds = λ a millis answer. AloneHolds answer;
+  tells = λ a told. AloneTells a.active told;
+  ends = λ a session answer. answer ≡ alone_end session;
   lapses = ⊥;
 }
 

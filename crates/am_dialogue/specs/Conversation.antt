@@ -1,6 +1,7 @@
 -- A session with a backend, line by line. It stands at a point: a state of the backend, and the records that wait in
 -- the session for its next load.
-use Rattle.std.specs.Prelude.{◌≡◌, ◌⊎◌, ℕ, ◌==◌, List, [], ◌∷◌, ◌++◌, Option, Some, None, MatchBool}
+use Rattle.std.specs.Prelude.{◌≡◌, ◌⊎◌, ℕ, ◌==◌, List, [], ◌∷◌, ◌++◌, Option, Some, None, MatchBool, Result}
+use Rattle.am_record.specs.declared.memory.NoMemory.{NoMemory}
 use Rattle.am_record.specs.declared.step.Step.{Step}
 use Rattle.am_record.specs.declared.step.Step.TheVariants.{Abort, Merge}
 use Rattle.am_record.specs.declared.step.Reply.{Reply}
@@ -14,10 +15,13 @@ use Rattle.am_dialogue.specs.Exchanges.{Exchange}
 use Rattle.am_dialogue.specs.Backends.{BackendMeaning}
 use Rattle.am_dialogue.specs.declared.lines.ParsedLine.{ParsedLine}
 use Rattle.am_dialogue.specs.declared.action.Action.{Action}
-use Rattle.am_dialogue.specs.declared.action.Action.TheVariants.{Answer, Take, TellSeen, AskHold}
+use Rattle.am_dialogue.specs.declared.action.Action.TheVariants.{Answer, Take, TellSeen, AskHold, TellWho, AskEnd}
 use Rattle.am_dialogue.specs.declared.response.Response.{Response}
-use Rattle.am_dialogue.specs.declared.response.Response.TheVariants.{Replied, Seen, Hold, Lapsed}
+use Rattle.am_dialogue.specs.declared.response.Response.TheVariants.{Replied, Seen, Hold, End, Lapsed}
 use Rattle.am_dialogue.specs.declared.response.HoldAnswer.{HoldAnswer}
+use Rattle.am_dialogue.specs.declared.response.EndAnswer.{EndAnswer}
+use Rattle.am_dialogue.specs.declared.active_sessions.ActiveSession.{ActiveSession}
+use Rattle.am_dialogue.specs.Responses.{who_response}
 
 abbrev pub SessionPoint : Type 0 → Type 0
 SessionPoint B = B × Records
@@ -43,6 +47,14 @@ module _ {B : Type 0} (means : BackendMeaning B) where
   abbrev pub AnswersHold : SessionPoint B → ℕ → HoldAnswer → Trace → SessionPoint B → Type 0
   AnswersHold old millis answer events new = means.holds old.0 millis answer × Stays old events new
 
+  -- the backend told which sessions have a transaction active
+  abbrev pub TellsWho : SessionPoint B → Result (List ActiveSession) NoMemory → Trace → SessionPoint B → Type 0
+  TellsWho old told events new = means.tells old.0 told × Stays old events new
+
+  -- the backend answered who would end this session
+  abbrev pub AnswersEnd : SessionPoint B → ℕ → EndAnswer → Trace → SessionPoint B → Type 0
+  AnswersEnd old session answer events new = means.ends old.0 session answer × Stays old events new
+
   -- what was due was answered by this response, with these events
   abbrev pub AnswersAction : SessionPoint B → Action → Response → Trace → SessionPoint B → Type 0
   AnswersAction old (Answer due) response events new = (response ≡ due) × Stays old events new
@@ -52,6 +64,10 @@ module _ {B : Type 0} (means : BackendMeaning B) where
       ShowsSeen old session commits events new
   AnswersAction old (AskHold millis) response events new = (answer : HoldAnswer) × (response ≡ Hold answer) ×
       AnswersHold old millis answer events new
+  AnswersAction old TellWho response events new = (told : Result (List ActiveSession) NoMemory) ×
+      (response ≡ who_response told) × TellsWho old told events new
+  AnswersAction old (AskEnd session) response events new = (answer : EndAnswer) × (response ≡ End answer) ×
+      AnswersEnd old session answer events new
 
   -- a line that was parsed so was answered, and these wait on
   abbrev pub AnswersParsed : SessionPoint B → ParsedLine → Response → Trace → SessionPoint B → Type 0

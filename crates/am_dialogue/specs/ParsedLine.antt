@@ -2,7 +2,7 @@
 use Rattle.std.specs.Prelude.{◌≡◌, ℕ, List, Bool, true, false, Option, Some, None, Result, Ok, Err}
 use Rattle.am_wire.specs.LineReadings.{reading, MayRead}
 use Rattle.am_wire.specs.declared.request.Request.{Request}
-use Rattle.am_wire.specs.declared.request.Request.TheVariants.{Stage, Merge, Clean, Hold, Quit}
+use Rattle.am_wire.specs.declared.request.Request.TheVariants.{Stage, Merge, Clean, Hold, Who, End, Quit}
 use Rattle.am_text.specs.declared.fault.LineFault.{LineFault}
 use Rattle.am_dialogue.specs.declared.lines.ParsedLine.{ParsedLine}
 use Rattle.am_dialogue.specs.declared.lines.ParsedLine.TheVariants.{Asked, Faulty, TooLong}
@@ -39,6 +39,9 @@ abbrev pub is_stage : ParsedLine → Bool
 is_stage (Asked (Stage records)) = true
 is_stage _ = false
 
-abbrev pub is_hold : ParsedLine → Bool
-is_hold (Asked (Hold millis)) = true
-is_hold _ = false
+-- whether it is answered while another session holds
+abbrev pub is_urgent : ParsedLine → Bool
+is_urgent (Asked (Hold millis)) = true
+is_urgent (Asked Who) = true
+is_urgent (Asked (End session)) = true
+is_urgent _ = false

@@ -17,6 +17,7 @@ use Rattle.am_record.specs.Refusals.{refusal_before_lock, is_one_too_many, lock_
 use Rattle.am_dialogue.specs.ParsedLine.{Line, parsed, is_upkeep, is_stage}
 use Rattle.am_dialogue.specs.Actions.{with_staged, staged_left, stage_response, may_wait, is_hold_time}
 use Rattle.am_dialogue.specs.Exchanges.{Exchange}
+use Rattle.am_dialogue.specs.Alone.{alone_actives, alone_end}
 use Rattle.am_wire.specs.declared.request.Request.{Request}
 use Rattle.am_wire.specs.declared.request.Request.TheVariants as request
 use Rattle.am_text.specs.declared.fault.LineFault.TheVariants as fault
@@ -24,7 +25,7 @@ use Rattle.am_dialogue.specs.declared.lines.ParsedLine.{ParsedLine}
 use Rattle.am_dialogue.specs.declared.lines.ParsedLine.TheVariants as said
 use Rattle.am_dialogue.specs.declared.response.Response.{Response}
 use Rattle.am_dialogue.specs.declared.response.Response.TheVariants.{TooLong, Faulty, NoTransaction, Active}
-use Rattle.am_dialogue.specs.declared.response.Response.TheVariants.{StillStaged, Replied, Seen, Hold}
+use Rattle.am_dialogue.specs.declared.response.Response.TheVariants.{StillStaged, Replied, Seen, Hold, Who, End}
 use Rattle.am_dialogue.specs.declared.response.HoldAnswer.TheVariants.{Granted, OutOfBounds}
 
 -- how many transactions were begun and committed and how many runs were made, the map that the committed ones left, the
@@ -77,6 +78,9 @@ answer_to s (Some ops) request.Abort = Some (Replied Aborted)
 answer_to s own request.Seen = Some (Seen 0 s.commits)
 answer_to s None (request.Hold millis) = Some (hold_response millis)
 answer_to s (Some ops) (request.Hold millis) = Some Active
+answer_to s None request.Who = Some (Who (alone_actives None))
+answer_to s (Some ops) request.Who = Some (Who (alone_actives (Some s.begun)))
+answer_to s own (request.End session) = Some (End (alone_end session))
 answer_to s own (request.Merge limit) = None
 answer_to s own (request.Clean range limit) = None
 answer_to s own _ = Some NoTransaction

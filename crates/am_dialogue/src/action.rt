@@ -14,4 +14,8 @@ pub enum Action {
     TellSeen,
     /// What the backend answers who would hold it for so many milliseconds.
     AskHold(u64),
+    /// Which sessions have a transaction active, as the backend tells.
+    TellWho,
+    /// What the backend answers who would end the session of this number.
+    AskEnd(u64),
 }

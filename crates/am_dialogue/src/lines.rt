@@ -2,7 +2,7 @@
 
 ghost use Rattle.std.specs.Prelude.{◌≡◌};
 ghost use Rattle.am_stream.specs.LineAnswers.{seen};
-ghost use Rattle.am_dialogue.specs.ParsedLine.{MayParse, is_quit, is_hold};
+ghost use Rattle.am_dialogue.specs.ParsedLine.{MayParse, is_quit, is_urgent};
 
 use am_stream::LineKind;
 use am_text::LineFault;
@@ -38,10 +38,14 @@ impl ParsedLine {
         matches!(self, ParsedLine::Asked(Request::Quit))
     }
 
-    /// Whether it would hold.
-    pub fn is_hold(&self) -> bool
-        ensures { result ≡ is_hold self.now }
+    /// Whether it is answered while another session holds: who would hold hears which one does, and a session that
+    /// is in the way can be found and ended.
+    pub fn is_urgent(&self) -> bool
+        ensures { result ≡ is_urgent self.now }
     {
-        matches!(self, ParsedLine::Asked(Request::Hold(_)))
+        matches!(
+            self,
+            ParsedLine::Asked(Request::Hold(_) | Request::Who | Request::End(_))
+        )
     }
 }

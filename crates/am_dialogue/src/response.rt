@@ -2,9 +2,11 @@
 
 ghost use Rattle.std.specs.Prelude.{◌≡◌, ◌^◌, ◌<◌, true, OnOk};
 ghost use Rattle.am_sink.specs.SinkWrites.{Wrote};
-ghost use Rattle.am_dialogue.specs.Responses.{response_text, fault_text, seen_text, hold_text};
+ghost use Rattle.am_dialogue.specs.Responses.{response_text, fault_text, seen_text, hold_text, end_text};
+ghost use Rattle.am_dialogue.specs.Responses.{ends_itself, active_words, actives_words, who_text, who_response};
 
-use am_record::Reply;
+use crate::active_sessions::{ActiveSession, ActiveSessions};
+use am_record::{NoMemory, Reply};
 use am_sink::{Failed, Sink, give_all};
 use am_text::{LineFault, Text};
 use am_wire::put_reply;
@@ -20,8 +22,19 @@ pub enum HoldAnswer {
     HeldBy(u64),
 }
 
+/// What a session hears that would end one.
+#[derive(Clone, Copy, PartialEq, Eq)]
+pub enum EndAnswer {
+    /// The session of that number ends.
+    Ends,
+    /// It is the session itself, which ends behind the answer.
+    EndsItself,
+    /// No session has that number.
+    NoSession,
+}
+
 /// What a session writes for a line: a fault of the line, or of its place in the session, the reply to its step, what
-/// SEEN tells, what HOLD is answered, or that the line came too late.
+/// SEEN and WHO tell, what HOLD and END are answered, or that the line came too late.
 #[derive(Drop)]
 pub enum Response {
     TooLong,
@@ -41,8 +54,31 @@ pub enum Response {
     Seen(u64, u64),
     /// Whether the session holds.
     Hold(HoldAnswer),
+    /// Which sessions have a transaction active.
+    Who(ActiveSessions),
+    /// Whether a session ends.
+    End(EndAnswer),
     /// No line came for too long, so the transaction was aborted. The line did nothing.
     Lapsed,
+}
+
+impl Response {
+    /// The response to WHO, for which memory may be refused.
+    pub fn of_who(answer: Result<ActiveSessions, NoMemory>) -> Response
+        ensures { result ≡ who_response answer }
+    {
+        match answer {
+            Ok(sessions) => Response::Who(sessions),
+            Err(NoMemory) => Response::Faulty(LineFault::NoMemory),
+        }
+    }
+
+    /// Whether the session ends behind it, since it ended itself.
+    pub fn ends_itself(&self) -> bool
+        ensures { result ≡ ends_itself self.now }
+    {
+        matches!(self, Response::End(EndAnswer::EndsItself))
+    }
 }
 
 /// Writes the text of a response. It takes no memory. At an error a beginning of it went out.
@@ -65,6 +101,8 @@ pub fn put_response<K: Sink>(response: &Response, sink: &mut K) -> Result<(), Fa
             text_of_seen(*session, *commits).as_slice(),
         ),
         Response::Hold(answer) => give_all(sink, text_of_hold(*answer).as_slice()),
+        Response::Who(sessions) => put_who(sessions.as_slice(), sink),
+        Response::End(answer) => give_all(sink, text_of_end(*answer)),
         Response::Lapsed => give_all(sink, b"ERR IDLE\n"),
     }
 }
@@ -97,4 +135,47 @@ fn text_of_hold(answer: HoldAnswer) -> Text
         HoldAnswer::OutOfBounds => Text::new(b"ERR LIMIT\n"),
         HoldAnswer::HeldBy(session) => Text::new(b"ERR HELD ").then_number(session).then(b"\n"),
     }
+}
+
+fn text_of_end(answer: EndAnswer) -> &'static [u8]
+    ensures { result.now ≡ end_text answer }
+{
+    match answer {
+        EndAnswer::Ends | EndAnswer::EndsItself => b"OK\n",
+        EndAnswer::NoSession => b"ERR SESSION\n",
+    }
+}
+
+// One session.
+fn active_words(active: &ActiveSession) -> Text
+    ensures { result ≡ active_words active.now }
+{
+    Text::new(b" ")
+        .then_number(active.session)
+        .then(b":")
+        .then_number(active.tx)
+        .then(b":")
+        .then_number(active.seconds)
+}
+
+fn put_actives<K: Sink>(sessions: &[ActiveSession], sink: &mut K) -> Result<(), Failed>
+    requires countable { K.failures sink.old < 2 ^ 63 }
+    ensures { Wrote K.holds K.failures sink.old (actives_words sessions.now) result sink.new }
+{
+    for session in sessions {
+        give_all(sink, active_words(session).as_slice())?;
+    }
+    Ok(())
+}
+
+// Piece by piece: the line may be longer than any other.
+fn put_who<K: Sink>(sessions: &[ActiveSession], sink: &mut K) -> Result<(), Failed>
+    requires countable { K.failures sink.old < 2 ^ 63 }
+    ensures wrote { Wrote K.holds K.failures sink.old (who_text sessions.now) result sink.new }
+    ensures pending { OnOk result (K.pending sink.new ≡ true) }
+{
+    let head = Text::new(b"WHO ").then_number(sessions.len() as u64);
+    give_all(sink, head.as_slice())?;
+    put_actives(sessions, sink)?;
+    give_all(sink, b"\n")
 }

@@ -128,6 +128,8 @@ impl Session {
                 None => hold(millis),
                 Some(_) => Action::Answer(Response::Active),
             },
+            Request::Who => Action::TellWho,
+            Request::End(session) => Action::AskEnd(session),
             Request::Quit => Action::Answer(Response::NoTransaction),
         }
     }

@@ -8,3 +8,5 @@ pub mod Turnstiles
 pub mod Tickets
 pub mod WaitingLaws
 pub mod Patience
+pub mod Connections
+pub mod Doors

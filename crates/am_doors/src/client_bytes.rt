@@ -3,6 +3,7 @@
 ghost use Rattle.std.specs.Prelude.{◌≡◌};
 ghost use Rattle.am_doors.specs.Patience.{patience_for};
 
+use crate::connections::{Connections, millis_of};
 use am_sink::{Failed, or_failed};
 use am_stream::Source;
 use libc::net::{POLLIN, poll};
@@ -50,10 +51,6 @@ fn patience_for(lapse: u64, waited: u64, idle: Option<u64>) -> Patience
     }
 }
 
-fn millis_of(duration: Duration) -> u64 {
-    u64::try_from(duration.as_millis()).unwrap_or(u64::MAX)
-}
-
 /// The bytes of a connection. While a transaction is active they are waited for as long as one may be whose session
 /// sends no line, and as long as nothing may come.
 #[derive(Drop)]
@@ -63,6 +60,9 @@ pub struct ClientBytes<'a, R> {
     // In milliseconds, where these are limited.
     lapse: Option<u64>,
     idle: Option<u64>,
+    // Where it is told when a line came.
+    connections: &'a Connections,
+    place: usize,
     // When the last line came, or the connection.
     heard_at: Option<Instant>,
     // Whether nothing came for as long as nothing may.
@@ -71,13 +71,15 @@ pub struct ClientBytes<'a, R> {
 }
 
 impl<'a, R: Clock> ClientBytes<'a, R> {
-    /// The bytes of a connection that begins. A transaction lapses after so long without a line, and a session ends
-    /// after so long without any byte, where that is limited.
+    /// The bytes of a connection that begins at this place. A transaction lapses after so long without a line, and a
+    /// session ends after so long without any byte, where that is limited.
     pub fn new(
         rt: &'a R,
         stream: &'a TcpStream,
         lapse: Option<Duration>,
         idle: Option<Duration>,
+        connections: &'a Connections,
+        place: usize,
     ) -> ClientBytes<'a, R>
         ensures { result.failures ≡ 0 }
     {
@@ -86,6 +88,8 @@ impl<'a, R: Clock> ClientBytes<'a, R> {
             stream,
             lapse: lapse.map(millis_of),
             idle: idle.map(millis_of),
+            connections,
+            place,
             heard_at: Instant::now(rt).ok(),
             is_over: false,
             failures: 0,
@@ -115,8 +119,9 @@ impl<'a, R: Clock> ClientBytes<'a, R> {
     fn hear(&mut self, bytes: &[u8])
         ensures { self.new.failures ≡ self.old.failures }
     {
-        if self.lapse.is_some() && bytes.contains(&b'\n') {
+        if bytes.contains(&b'\n') {
             self.heard_at = Instant::now(self.rt).ok();
+            self.connections.hear(self.place, self.heard_at);
         }
     }
 }

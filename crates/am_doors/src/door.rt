@@ -7,13 +7,19 @@ use std::os::fd::{AsRawFd, OwnedFd, RawFd};
 use std::os::unix::fs::{FileTypeExt, PermissionsExt};
 use std::os::unix::net::{UnixListener, UnixStream};
 use std::rt::Files;
-use std::{fs, io};
+use std::{fmt, fs, io};
 
 /// So many connections may wait for the system to give them out, as far as it lets them: std asks for 128.
 const MOST_UNACCEPTED: i32 = 4096;
 
 /// So many connections at most may have come to a socket before its mode was set.
 const MOST_EARLY: u32 = 4096;
+
+/// Where Linux tells which sockets of the file system are open.
+const OPEN_SOCKETS: &str = "/proc/net/unix";
+
+/// What a line there has where connections are taken.
+const TAKES_CONNECTIONS: &str = " 00010000 ";
 
 /// A port of this machine, or a socket of its file system.
 #[derive(Drop)]
@@ -62,6 +68,21 @@ impl Door {
     }
 }
 
+/// By the number of the port, or the name of the socket.
+impl fmt::Display for Door {
+    ghost use Rattle.std.specs.Prelude.{Some};
+    ghost use Rattle.am_doors.specs.Doors.{door_text};
+
+    ghost output = { λ door. Some (door_text door) };
+
+    fn fmt<W: fmt::Write>(&self, f: &mut fmt::Formatter<W>) -> fmt::Result {
+        match self {
+            Door::Port { port, .. } => write!(f, "{port}"),
+            Door::Socket { path, .. } => f.write_str(path),
+        }
+    }
+}
+
 /// Listens at a port of this machine, at any free one where it is 0. The listener and its port.
 pub fn listen_at_port<R: Net<Listener = TcpListener, Stream = TcpStream>>(
     rt: &R,
@@ -80,7 +101,10 @@ fn let_wait(listener: RawFd) {
 
 /// Listens at a socket of the file system that nobody but its owner may open. One of that name at which nobody listens
 /// is replaced.
-pub fn listen_at_socket<R: Files + Net>(rt: &R, path: &str) -> io::Result<UnixListener> {
+pub fn listen_at_socket<R: AllocGlobal + Files + Net>(
+    rt: &R,
+    path: &str,
+) -> io::Result<UnixListener> {
     let listener = match UnixListener::bind(rt, path) {
         Err(fault) if fault.kind() == ErrorKind::AddrInUse && is_left(rt, path) => {
             fs::remove_file(rt, path)?;
@@ -105,14 +129,35 @@ fn close_early(listener: &UnixListener) -> io::Result<()> {
     listener.set_nonblocking(false)
 }
 
-// Whether there is a socket of that name at which nobody listens.
-fn is_left<R: Files + Net>(rt: &R, path: &str) -> bool {
+// Whether there is a socket of that name at which nobody listens. Where the system doesn't know it by just that name,
+// whoever listens there gets a connection that ends at once.
+fn is_left<R: AllocGlobal + Files + Net>(rt: &R, path: &str) -> bool {
     match fs::symlink_metadata(rt, path) {
         Ok(found) if found.file_type().is_socket() => {}
         _ => return false,
+    }
+    if is_open(rt, path) {
+        return false;
     }
     match UnixStream::connect(rt, path) {
         Err(fault) => fault.kind() == ErrorKind::ConnectionRefused,
         Ok(_) => false,
     }
+}
+
+// Whether the system tells that somebody listens at a socket of just that name, as far as it can be asked.
+fn is_open<R: AllocGlobal + Files>(rt: &R, path: &str) -> bool {
+    let Ok(sockets) = fs::read_to_string(rt, OPEN_SOCKETS) else {
+        return false;
+    };
+    for line in sockets.lines() {
+        if line.contains(TAKES_CONNECTIONS)
+            && line
+                .strip_suffix(path)
+                .is_some_and(|rest| rest.ends_with(' '))
+        {
+            return true;
+        }
+    }
+    false
 }

@@ -18,19 +18,19 @@ use std::time::Duration;
 /// The doors of a server.
 #[derive(Clone, Copy)]
 pub struct Doors<'a> {
-    /// The port.
-    pub port: &'a Door,
-    /// The socket of the file system, where there is one.
-    pub socket: Option<&'a Door>,
+    /// The only one, or the first of two.
+    pub first: &'a Door,
+    /// The second one, where there is one.
+    pub second: Option<&'a Door>,
 }
 
 impl<'a> Doors<'a> {
     /// How many seats there are, where each door has so many.
     pub fn seats(self, sessions: u64) -> u64
         requires { sessions ≤ 256 }
-        ensures { result ≡ (if is_some self.entry.socket then 2 * sessions else sessions) }
+        ensures { result ≡ (if is_some self.entry.second then 2 * sessions else sessions) }
     {
-        match self.socket {
+        match self.second {
             Some(_) => 2 * sessions,
             None => sessions,
         }
@@ -51,8 +51,8 @@ pub struct Limits {
 /// What the threads of a server share, but for its store.
 #[derive(Drop)]
 pub struct House<'a> {
-    port: Mutex<Gate<'a>>,
-    socket: Option<Mutex<Gate<'a>>>,
+    first: Mutex<Gate<'a>>,
+    second: Option<Mutex<Gate<'a>>>,
     /// How many seats each door has.
     pub seats: usize,
     /// Gives workers their turns.
@@ -73,7 +73,7 @@ pub struct House<'a> {
     all_ended: AtomicBool,
 }
 
-// Whether the seat of this place has the socket: the first ones, so many, have the port.
+// Whether the seat of this place is at the second door, where there is one: so many before it are at the first.
 fn is_behind(seats: usize, place: usize) -> bool
     ensures { result ≡ nat_le seats place }
 {
@@ -108,20 +108,20 @@ impl<'a> House<'a> {
         ensures hold { IfOk result (λ house. house.turnstile ≡ limits.hold) }
         ensures seats { IfOk result (λ house. house.seats ≡ sessions) }
         ensures places { IfOk result (λ house. house.connections ≡
-            (if is_some doors.entry.socket then 2 * sessions else sessions)) }
-        ensures socket { IfOk result (λ house. is_some house.socket ≡ is_some doors.entry.socket) }
+            (if is_some doors.entry.second then 2 * sessions else sessions)) }
+        ensures second { IfOk result (λ house. is_some house.second ≡ is_some doors.entry.second) }
     {
-        let socket = match doors.socket {
+        let second = match doors.second {
             Some(door) => Some(Mutex::new(Gate::new(alloc, door, is_stopped, mode)?)),
             None => None,
         };
         let all = doors.seats(sessions);
         Ok(House {
-            port: Mutex::new(Gate::new(alloc, doors.port, is_stopped, mode)?),
-            socket,
+            first: Mutex::new(Gate::new(alloc, doors.first, is_stopped, mode)?),
+            second,
             seats: sessions as usize,
             pacer: MergePacer::new(all),
-            connections: Connections::new(alloc, all as usize)?,
+            connections: Connections::new(rt, alloc, all as usize)?,
             turnstile: Turnstile::new(rt, alloc, all as usize, limits.hold)?,
             tally: Tally::new(),
             mode,
@@ -134,12 +134,12 @@ impl<'a> House<'a> {
 
     /// The gate at which the seat of this place waits.
     pub fn gate(&self, place: usize) -> &Mutex<Gate<'a>>
-        ensures { MatchOption self.now.socket (result.now ≡ self.now.port)
-            (λ socket. result.now ≡ (if nat_le self.now.seats place then socket else self.now.port)) }
+        ensures { MatchOption self.now.second (result.now ≡ self.now.first)
+            (λ second. result.now ≡ (if nat_le self.now.seats place then second else self.now.first)) }
     {
-        match &self.socket {
-            Some(socket) if is_behind(self.seats, place) => socket,
-            _ => &self.port,
+        match &self.second {
+            Some(second) if is_behind(self.seats, place) => second,
+            _ => &self.first,
         }
     }
 
@@ -150,9 +150,9 @@ impl<'a> House<'a> {
         if !self.mode.stays() {
             return;
         }
-        receive_at(rt, &self.port, &self.tally);
-        if let Some(socket) = &self.socket {
-            receive_at(rt, socket, &self.tally);
+        receive_at(rt, &self.first, &self.tally);
+        if let Some(second) = &self.second {
+            receive_at(rt, second, &self.tally);
         }
     }
 

@@ -1,7 +1,8 @@
 //! Where connections come to a server, and what its threads share beside the store.
 //!
 //! - [`listen_at_port`], [`listen_at_socket`]: a port of this machine, a socket of its file system ([`Door`]).
-//! - [`House`]: gates at which threads wait for connections, those that are open, what is counted, and workers' turns.
+//! - [`House`]: gates at which threads wait for connections, those that are open ([`Connections`]), what is counted,
+//!   and workers' turns.
 //! - [`Turnstile`]: where sessions wait that have nothing begun: while one of them holds, and where 64 have begun.
 //! - [`ClientBytes`]: what comes from a connection, and how long that is waited for.
 //! - [`OwnLines`]: a connection whose bytes are passed on as far as they are lines of the protocol.
@@ -28,6 +29,7 @@ mod unended_line;
 mod waiting;
 
 pub use client_bytes::ClientBytes;
+pub use connections::Connections;
 pub use counting_sink::CountingSink;
 pub use door::{Door, listen_at_port, listen_at_socket};
 pub use house::{Doors, House, Limits};

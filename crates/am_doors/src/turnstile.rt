@@ -27,13 +27,13 @@ pub enum HoldReply {
 }
 
 // What stands in a word for a number: never 0, which stands for none.
-fn mark_of(number: u64) -> u64
+pub(crate) fn mark_of(number: u64) -> u64
     ensures { result ≡ mark_of number }
 {
     number.saturating_add(1)
 }
 
-fn number_in(mark: u64) -> Option<u64>
+pub(crate) fn number_in(mark: u64) -> Option<u64>
     ensures { result ≡ number_in mark }
 {
     mark.checked_sub(1)

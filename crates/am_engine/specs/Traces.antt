@@ -11,9 +11,10 @@ use Rattle.am_ties.specs.CallLogs.{CallLog, call_log_code, log_with}
 use Rattle.am_traced_steps.specs.Changes.{change, is_stored}
 use Rattle.am_engine.specs.declared.change.Stored.{Stored}
 
--- what contracts see of an engine: the stored calls, the beginning of them that was handed out, and for how many pairs
--- more there is room, beside the ends that room is kept for
+-- what contracts see of an engine: how many runs its store makes at most, the stored calls, the beginning of them that
+-- was handed out, and for how many pairs more there is room, beside the ends that room is kept for
 pub record EngineState : Type 0 where
+  pub most_runs : ℕ
   pub trace : List (Step × Reply)
   pub calls : List CallId
   pub handed : CallLog
@@ -25,9 +26,16 @@ log_of e = record { trace = e.trace; calls = e.calls }
 -- it is stored as its fields
 abbrev pub engine_code : Coded EngineState
 engine_code =
-    code_by ((CallLog × CallLog) × ℕ) (coded× (coded× call_log_code call_log_code) coded_ℕ)
-    (λ e. ((log_of e, e.handed), e.room))
-    (λ f. record { trace = f.0.0.trace; calls = f.0.0.calls; handed = f.0.1; room = f.1 }) (λ _. refl)
+    code_by ((CallLog × CallLog) × (ℕ × ℕ))
+    (coded× (coded× call_log_code call_log_code) (coded× coded_ℕ coded_ℕ))
+    (λ e. ((log_of e, e.handed), (e.most_runs, e.room)))
+    (λ f. record {
+      most_runs = f.1.0;
+      trace = f.0.0.trace;
+      calls = f.0.0.calls;
+      handed = f.0.1;
+      room = f.1.1;
+    }) (λ _. refl)
 
 -- the pair is stored with its call, or the answer is not one of the store's and nothing changed
 abbrev pub StoresCall : CallLog → CallId → Step → Reply → CallLog → Type 0
@@ -37,8 +45,9 @@ StoresCall e m s r e' = MatchBool (is_stored r) (e' ≡ log_with e m s r) (e' �
 abbrev pub stored_at : ℕ → Step → Reply → Option Stored
 stored_at position st r = if is_stored r then Some (record { change = change st r; position = position }) else None
 
--- more was handed out, and the log is what it was
+-- more was handed out, and the log is what it was, of a store with as many runs at most
 pub record HandsOn (e : EngineState) (piece : CallLog) (e' : EngineState) : Type 0 where
+  pub most : e'.most_runs ≡ e.most_runs
   pub log : log_of e' ≡ log_of e
   pub handed_trace : e'.handed.trace ≡ e.handed.trace ++ piece.trace
   pub handed_calls : e'.handed.calls ≡ e.handed.calls ++ piece.calls

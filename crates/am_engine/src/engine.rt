@@ -2,6 +2,7 @@
 
 ghost use Rattle.std.specs.Prelude.{◌≡◌, ◌≢◌, ◌≤◌, ◌+◌, ◌<◌, ◌^◌, ◌++◌, ◌∷◌, [], ℕ, IfOk, OnErr, IfSome, IsSome, None};
 ghost use Rattle.std.specs.Prelude.{length, true, false, vec_len, vec_capacity};
+ghost use Rattle.am_record.specs.Limits.{last_run};
 ghost use Rattle.am_record.specs.declared.step.Step.{Step};
 ghost use Rattle.am_record.specs.declared.step.Reply.{Reply};
 ghost use Rattle.am_record.specs.declared.step.Reply.TheVariants.{Refused};
@@ -84,6 +85,7 @@ impl Model for Engine {
     ghost coded = { engine_code };
 
     ghost view = { λ e. record {
+      most_runs = e.store.most_runs;
       trace = e.handed.trace ++ e.trace.items;
       calls = e.handed.calls ++ e.calls.items;
       handed = e.handed;
@@ -94,16 +96,18 @@ impl Model for Engine {
 }
 
 impl Engine {
-    /// An engine over an empty store, with an empty trace.
+    /// An engine over an empty store that makes so many runs at most, 4,294,967,294 or fewer, with an empty trace.
     ///
     /// # Errors
     /// NoMemory, where memory was refused for the store.
-    pub fn open(alloc: Global, hash: HashKey) -> Result<Engine, NoMemory>
+    pub fn open(alloc: Global, hash: HashKey, most_runs: u32) -> Result<Engine, NoMemory>
+        requires few { most_runs ≤ last_run }
+        ensures most { IfOk result (λ e. e.most_runs ≡ most_runs) }
         ensures empty { IfOk result (λ e. log_of e ≡ empty_log) }
         ensures handed { IfOk result (λ e. e.handed ≡ empty_log) }
     {
         am_sound::steps_lift();
-        let store = Store::open(alloc, BTree::new(alloc)?, hash)?;
+        let store = Store::open_for(alloc, BTree::new(alloc)?, hash, most_runs)?;
         Ok(Engine {
             store,
             handed: Handed::new(alloc)?,
@@ -123,6 +127,7 @@ impl Engine {
     pub fn step(&mut self, call_id: CallId, step: Step) -> Reply
         ensures stepped { StoresCall (log_of self.old) call_id step result (log_of self.new) }
         ensures handed { self.new.handed ≡ self.old.handed }
+        ensures most { self.new.most_runs ≡ self.old.most_runs }
         ensures memory { result ≡ Refused OutOfMemory → MayWantMemory self.old step }
         ensures room { self.old.room ≤ self.new.room + pairs_needed step }
         ensures never_full { result ≢ Refused SeatFull }
@@ -142,6 +147,7 @@ impl Engine {
         ensures stepped { StoresCall (log_of self.old) call_id step result.reply (log_of self.new) }
         ensures stored { result.stored ≡ stored_at (length self.old.trace) step result.reply }
         ensures handed { self.new.handed ≡ self.old.handed }
+        ensures most { self.new.most_runs ≡ self.old.most_runs }
         ensures memory { result.reply ≡ Refused OutOfMemory → MayWantMemory self.old step }
         ensures room { self.old.room ≤ self.new.room + pairs_needed step }
         ensures never_full { result.reply ≢ Refused SeatFull }
@@ -226,7 +232,7 @@ impl Engine {
     /// which is sound.
     pub fn kept(&self) -> &[(Step, Reply)]
         ensures trace { self.now.trace ≡ self.now.handed.trace ++ result.now }
-        ensures sound { IsSoundStore 65535 self.now.trace }
+        ensures sound { IsSoundStore self.now.most_runs self.now.trace }
     {
         self.trace.as_slice()
     }
@@ -260,7 +266,7 @@ impl Engine {
     pub fn into_parts(self) -> (Vec<(Step, Reply)>, Store<BTree>)
         ensures trace { self.handed.trace ++ result.0.items ≡ self.trace }
         ensures stands { IsSoundAt self.trace result.1 }
-        ensures most { result.1.most_runs ≡ 65535 }
+        ensures most { result.1.most_runs ≡ self.most_runs }
         ensures active { numbers_active result.1 ≡ active_in_trace self.trace }
         ensures even { length self.calls ≡ length self.trace }
     {

@@ -1,7 +1,7 @@
 -- What always holds of the fields of the state under the latch, of a seat, and of a blank.
 use Rattle.std.specs.Prelude.{◌≡◌, ◌≤◌, ◌<◌, ◌*◌, ◌+◌, ℕ, [], ◌∷◌, length, vec_len, vec_capacity}
 use Rattle.atomic_table.specs.Seated.{TableId}
-use Rattle.am_record.specs.Limits.{max_limit}
+use Rattle.am_record.specs.Limits.{last_run, max_limit}
 use Rattle.am_latch.specs.Faults.{max_seats}
 use Rattle.am_latch.specs.declared.latch.Blank.TheInside.{Inside as BlankFields}
 use Rattle.am_latch.specs.declared.seat.Seat.TheInside.{Inside as SeatFields}
@@ -16,9 +16,11 @@ use Rattle.am_engine.specs.Traces.{AreMadeBelow, log_of}
 use Rattle.am_ties.specs.declared.views.View.TheVariants.{Minting, Log}
 use Rattle.am_ties.specs.Views.{seat_in, IsSeatView}
 
--- One token under the latch knows the trace, another what was handed out of it. One of the seats made each call, which
--- has its number among the seat's, and what is open in these is active
-pub record IsLatchState {L : Type 0} (tables : LatchTables) (seats : ℕ) (s : LatchStateFields L) : Type 0 where
+-- The store makes so many runs at most. One token under the latch knows the trace, another what was handed out of it.
+-- One of the seats made each call, which has its number among the seat's, and what is open in these is active
+pub record IsLatchState {L : Type 0} (tables : LatchTables) (seats most_runs : ℕ)
+    (s : LatchStateFields L) : Type 0 where
+  pub most : s.engine.most_runs ≡ most_runs
   pub table_of : s.trace_token.table_id ≡ tables.calls
   pub knows : s.trace_token.views ≡ Log (log_of s.engine) ∷ []
   pub handed_of : s.handed_token.table_id ≡ tables.handed
@@ -51,10 +53,11 @@ pub record IsTaker {L : Type 0} (table : TableId) (t : TakerFields L) : Type 0 w
   pub view : IsTakerView t.token.me.0
   pub slots : t.token.me.1 ≡ []
 
--- 1 to 1,024 seats, and none of them minted yet; nothing was handed out
+-- 1 to 1,024 seats, and none of them minted yet; no more runs than there are numbers for; nothing was handed out
 pub record IsBlank (b : BlankFields) : Type 0 where
   pub some : 0 < b.seats
   pub few : b.seats ≤ max_seats
+  pub few_runs : b.most_runs ≤ last_run
   pub words : 0 < b.table.shared.table_id.words
   pub table_of : b.trace_token.table_id ≡ b.table.shared.table_id
   pub knows : b.trace_token.me ≡ (Minting 0, [])

@@ -13,15 +13,16 @@ WantsReceiptRoom s step =
     receipt_room (held_by s + receipts_kept (open_of s.receipts))
     < receipt_room (held_by s + receipts_needed (open_of s.receipts) step)
 
--- an engine of a latch with so many seats, in which the seat has just the receipts of its calls, may want memory for
--- the step: its store, or its trace for the pair
-pub record EngineMayWant (seats : ℕ) (s : SeatState) (step : Step) : Type 0 where
+-- an engine of a latch with so many seats and so many runs at most, in which the seat has just the receipts of its
+-- calls, may want memory for the step: its store, or its trace for the pair
+pub record EngineMayWant (seats most_runs : ℕ) (s : SeatState) (step : Step) : Type 0 where
   pub engine : EngineState
   pub of : IsEngineOf seats engine
   pub own : HasReceiptsIn engine s
-  pub sound : IsSoundStore 65535 engine.trace
+  pub sound : IsSoundStore most_runs engine.trace
   pub wants : MayWantMemory engine step
 
 -- a call may be refused memory for the lists of its step or of its reply, for its receipt, or by the engine
-abbrev pub CallMayWant : ℕ → SeatState → Step → Type 0
-CallMayWant seats s step = (takes_lists step ≡ true) ⊎ (WantsReceiptRoom s step ⊎ EngineMayWant seats s step)
+abbrev pub CallMayWant : ℕ → ℕ → SeatState → Step → Type 0
+CallMayWant seats most_runs s step = (takes_lists step ≡ true) ⊎
+    (WantsReceiptRoom s step ⊎ EngineMayWant seats most_runs s step)

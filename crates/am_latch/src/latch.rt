@@ -1,5 +1,6 @@
 //! The latch, round the engine.
 ghost use Rattle.std.specs.Prelude.{◌≡◌, ◌↔◌, ◌⊎◌, ◌<◌, ◌≤◌, [], ◌++◌, IfOk, IfErr, OnErr, IfSome};
+ghost use Rattle.am_record.specs.Limits.{last_run};
 ghost use Rattle.am_sound.specs.Right.{IsSoundStore};
 ghost use Rattle.am_ties.specs.declared.views.View.TheVariants.{Minting, Log};
 ghost use Rattle.am_ties.specs.CallLogs.{empty_log};
@@ -10,6 +11,7 @@ ghost use Rattle.am_engine.specs.Sizes.{AreFiguresAt};
 ghost use Rattle.am_engine.specs.Traces.{EngineState, IsNextOf};
 
 use crate::latch_name::LatchName;
+use crate::locked::Locked;
 use crate::seat::Seat;
 use crate::state::LatchState;
 use crate::taker::Taker;
@@ -46,6 +48,7 @@ pub enum LatchFault {
 #[derive(Drop)]
 pub struct Blank {
     seats: u64,
+    most_runs: u32,
     table: ViewTable,
     trace_token: Token,
     taken: TakenTable,
@@ -62,18 +65,21 @@ impl Model for Blank {
     ghost view = { λ b. record {
       table = record { calls = b.table.shared.table_id; handed = b.taken.shared.table_id };
       seats = b.seats;
+      most_runs = b.most_runs;
     } };
 
     ghost invariant = { IsBlank };
 }
 
 impl Blank {
-    /// A blank for so many seats.
+    /// A blank for so many seats, over a store that makes so many runs at most: [`am_record::LAST_RUN`] or fewer.
     ///
     /// # Errors
     /// BadSeats, unless 1 to 1,024 seats are asked for; NoMemory, where memory was refused.
-    pub fn new(alloc: Global, seats: u64) -> Result<Blank, LatchFault>
+    pub fn new(alloc: Global, seats: u64, most_runs: u32) -> Result<Blank, LatchFault>
+        requires few { most_runs ≤ last_run }
         ensures ok { IfOk result (λ b. (b.seats ≡ seats) × (0 < seats) × (seats ≤ 1024)) }
+        ensures most { IfOk result (λ b. b.most_runs ≡ most_runs) }
         ensures bad { IfErr result (λ e. IsBadSeats e ↔ ((seats ≡ 0) ⊎ (1024 < seats))) }
     {
         if seats == 0 || seats > MAX_SEATS as u64 {
@@ -87,6 +93,7 @@ impl Blank {
         };
         Ok(Blank {
             seats,
+            most_runs,
             table,
             trace_token,
             taken,
@@ -118,13 +125,14 @@ impl<L: LatchName> Latch<L> {
         blank: Blank,
         hash: HashKey,
     ) -> Result<(Latch<L>, Vec<Seat<L>>, Taker<L>), LatchFault>
-        requires { (blank.seats ≡ L.seats) × (blank.table ≡ L.table) }
+        requires { (blank.seats ≡ L.seats) × (blank.table ≡ L.table) × (blank.most_runs ≡ L.most_runs) }
         ensures seats { IfOk result (λ r. r.1.items ≡ numbered L.seats) }
         ensures taker { IfOk result (λ r. r.2 ≡ []) }
         ensures fault { IfErr result (λ e. ¬ (IsBadSeats e)) }
     {
         let Blank {
             seats: count,
+            most_runs,
             table,
             mut trace_token,
             taken,
@@ -134,7 +142,7 @@ impl<L: LatchName> Latch<L> {
         let Some(seats) = mint_seats(alloc, &table, &mut trace_token, count) else {
             return Err(LatchFault::NoMemory);
         };
-        let Ok(engine) = Engine::open(alloc, hash) else {
+        let Ok(engine) = Engine::open(alloc, hash, most_runs) else {
             return Err(LatchFault::NoMemory);
         };
         let handed_token = split_taker(&taken, &mut taken_token);
@@ -165,6 +173,14 @@ impl<L: LatchName> Latch<L> {
         self.state.lock(rt)
     }
 
+    /// The same, so that the thread may keep it.
+    pub(crate) fn take<R: Wait>(&self, rt: &R) -> Locked<'_, L> {
+        Locked {
+            state: self.lock(rt),
+            table: &self.table,
+        }
+    }
+
     fn try_briefly(&self) -> Option<MutexGuard<'_, LatchState<L>>> {
         for _ in 0..TRIES {
             if let Some(state) = self.state.try_lock() {
@@ -176,12 +192,12 @@ impl<L: LatchName> Latch<L> {
     }
 
     /// Lends the engine to the closure, which has the latch to itself meanwhile, and answers what it answers of that
-    /// engine: each of its calls was made by a seat of this latch, what is active in it is open in these seats, and the
-    /// seat that looks has just the receipts of its calls there.
+    /// engine: each of its calls was made by a seat of this latch, its store makes as many runs at most as the latch's,
+    /// what is active in it is open in these seats, and the seat that looks has just the receipts of its calls there.
     pub fn look<T, R: Wait, F: FnOnce(&Engine) -> T>(&self, rt: &R, seat: &mut Seat<L>, f: F) -> T
         requires { F.IsAlwaysCallable f }
-        ensures lent { (engine : _) × IsEngineOf L.seats engine.now × HasReceiptsIn engine.now seat.old ×
-            F.post f engine result }
+        ensures lent { (engine : _) × IsEngineOf L.seats engine.now × (engine.now.most_runs ≡ L.most_runs) ×
+            HasReceiptsIn engine.now seat.old × F.post f engine result }
         ensures same { seat.new ≡ seat.old }
     {
         lend(&self.table, &mut self.lock(rt), seat, f)
@@ -195,7 +211,7 @@ impl<L: LatchName> Latch<L> {
     pub fn hand_out<R: Wait>(&self, rt: &R, taker: &mut Taker<L>) -> Result<Piece, NoMemory>
         ensures taken { IfOk result (λ p. taker.new ≡ taker.old ++ p.trace.items) }
         ensures next { IfOk result (λ p. (engine : EngineState) × IsEngineOf L.seats engine ×
-            IsSoundStore 65535 engine.trace × (engine.handed.trace ≡ taker.old) ×
+            IsSoundStore L.most_runs engine.trace × (engine.handed.trace ≡ taker.old) ×
             IsNextOf engine p.first record { trace = p.trace.items; calls = p.calls.items }) }
         ensures figures { IfOk result (λ p. AreFiguresAt taker.new p.figures) }
         ensures same { OnErr result (taker.new ≡ taker.old) }
@@ -238,8 +254,8 @@ fn lend<L: LatchName, T, F: FnOnce(&Engine) -> T>(
 ) -> T
     requires table { (table.now.shared.table_id ≡ L.table.calls) × (0 < table.now.shared.table_id.words) }
     requires callable { F.IsAlwaysCallable f }
-    ensures lent { (engine : _) × IsEngineOf L.seats engine.now × HasReceiptsIn engine.now seat.old ×
-        F.post f engine result }
+    ensures lent { (engine : _) × IsEngineOf L.seats engine.now × (engine.now.most_runs ≡ L.most_runs) ×
+        HasReceiptsIn engine.now seat.old × F.post f engine result }
     ensures same { seat.new ≡ seat.old }
 {
     state.audit(table, seat);

@@ -1,6 +1,7 @@
 //! The end of a latch.
 ghost use Rattle.std.specs.Prelude.{◌≡◌, ◌<◌, ◌++◌, ◌↔◌, [], IfOk, IfErr, MatchResult, length, true};
 ghost use Rattle.am_core.specs.StoreSteps.{IsSoundAt};
+ghost use Rattle.am_sound.specs.Right.{IsSoundStore};
 ghost use Rattle.am_latch.specs.Receipts.{AreReceiptsOf, AreAll, NumberedBelow, HaveReceiptsIn};
 ghost use Rattle.am_latch.specs.Ties.{SeatsAreTied};
 ghost use Rattle.am_traced_steps.specs.Changes.{active_in_trace, numbers_active};
@@ -79,7 +80,9 @@ pub fn close<L: LatchName>(
     ensures open_txs { IfOk result (λ c. SeatsAreTied c.seats.items (numbers_active c.store)) }
     ensures active { IfOk result (λ c. numbers_active c.store ≡ active_in_trace (taker ++ c.trace.items)) }
     ensures stands { IfOk result (λ c. IsSoundAt (taker ++ c.trace.items) c.store) }
-    ensures legal { IfOk result (λ c. IsLegal 65535 (taker ++ c.trace.items)) }
+    ensures sound { IfOk result (λ c. IsSoundStore L.most_runs (taker ++ c.trace.items)) }
+    ensures most { IfOk result (λ c. c.store.most_runs ≡ L.most_runs) }
+    ensures legal { IfOk result (λ c. IsLegal L.most_runs (taker ++ c.trace.items)) }
 {
     am_serial::sound_traces_are_legal();
     let Latch {

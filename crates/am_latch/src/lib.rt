@@ -2,6 +2,7 @@
 //!
 //! - [`Blank`], [`Latch`]: an [`am_engine::Engine`] under a lock, and its seats.
 //! - [`Seat`]: calls through the latch, with a receipt for each; [`CommitReceipt`] says that a commit stands.
+//! - [`Locked`]: the latch, held from one call to the next.
 //! - [`Taker`]: who takes what the latch hands out of its trace.
 //! - [`close`]: when the threads have ended, receipts and trace are the same.
 //!
@@ -12,6 +13,7 @@
 mod latch;
 mod latch_end;
 mod latch_name;
+mod locked;
 mod receipt;
 mod seat;
 mod state;
@@ -20,6 +22,7 @@ mod taker;
 pub use latch::{Blank, Latch, LatchFault, MAX_SEATS};
 pub use latch_end::{Closed, Missing, close};
 pub use latch_name::LatchName;
+pub use locked::Locked;
 pub use receipt::CommitReceipt;
 pub use seat::Seat;
 pub use taker::Taker;

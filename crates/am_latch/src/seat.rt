@@ -17,6 +17,7 @@ ghost use Rattle.am_ties.specs.Views.{new_seat_view, log_in, IsLogView};
 
 use crate::latch::Latch;
 use crate::latch_name::LatchName;
+use crate::locked::Locked;
 use crate::receipt::{CommitReceipt, commit_by, moved_by};
 use am_engine::{StepCopy, tx_to_end};
 use am_record::{Refusal, Reply, Step};
@@ -172,7 +173,28 @@ impl<L: LatchName> Seat<L> {
         requires { IsAllowed (open_of self.old.receipts) step }
         ensures called { HasReceiptOf self.old step result self.new }
         ensures full { (result ≡ Refused SeatFull) ↔ ((1000000 ≤ held_by self.old) × (end_of step ≡ None)) }
-        ensures memory { result ≡ Refused NoMemory → CallMayWant L.seats self.old step }
+        ensures memory { result ≡ Refused NoMemory → CallMayWant L.seats L.most_runs self.old step }
+        ensures ended { EndsTx step result }
+        ensures neither { IsSome (end_of step) → is_stored result ≡ true }
+        ensures bounded { IsBoundedReply step result }
+    {
+        let mut held = None;
+        self.call_on(rt, latch, &mut held, step)
+    }
+
+    /// Takes a step as `call` does, and goes on having the latch: where it is held it isn't taken anew. Nobody else's
+    /// step comes between those that are taken so, and everybody waits until it is let go.
+    pub fn call_on<'a, R: Wait>(
+        &mut self,
+        rt: &R,
+        latch: &'a Latch<L>,
+        held: &mut Option<Locked<'a, L>>,
+        step: Step,
+    ) -> Reply
+        requires { IsAllowed (open_of self.old.receipts) step }
+        ensures called { HasReceiptOf self.old step result self.new }
+        ensures full { (result ≡ Refused SeatFull) ↔ ((1000000 ≤ held_by self.old) × (end_of step ≡ None)) }
+        ensures memory { result ≡ Refused NoMemory → CallMayWant L.seats L.most_runs self.old step }
         ensures ended { EndsTx step result }
         ensures neither { IsSome (end_of step) → is_stored result ≡ true }
         ensures bounded { IsBoundedReply step result }
@@ -180,16 +202,22 @@ impl<L: LatchName> Seat<L> {
         if self.positions.len() >= MOST_RECEIPTS && tx_to_end(&step).is_none() {
             return Reply::Refused(Refusal::SeatFull);
         }
-        self.make_call(rt, latch, step)
+        self.make_call(rt, latch, held, step)
     }
 
     // Takes a step. What needs no latch comes before it.
-    fn make_call<R: Wait>(&mut self, rt: &R, latch: &Latch<L>, step: Step) -> Reply
+    fn make_call<'a, R: Wait>(
+        &mut self,
+        rt: &R,
+        latch: &'a Latch<L>,
+        held: &mut Option<Locked<'a, L>>,
+        step: Step,
+    ) -> Reply
         requires may { IsAllowed (open_of self.old.receipts) step }
         requires room { end_of step ≡ None → held_by self.old < 1000000 }
         ensures called { HasReceiptOf self.old step result self.new }
         ensures never_full { result ≢ Refused SeatFull }
-        ensures memory { result ≡ Refused NoMemory → CallMayWant L.seats self.old step }
+        ensures memory { result ≡ Refused NoMemory → CallMayWant L.seats L.most_runs self.old step }
         ensures ended { EndsTx step result }
         ensures bounded { IsBoundedReply step result }
     {
@@ -200,9 +228,15 @@ impl<L: LatchName> Seat<L> {
             seat: self.number,
             call: self.let_go + self.positions.len() as u64,
         };
-        let outcome = latch
-            .lock(rt)
-            .call(&latch.table, &mut self.token, call_id, step, copy);
+        let mut locked = match held.take() {
+            Some(locked) => locked,
+            None => latch.take(rt),
+        };
+        let table = locked.table;
+        let outcome = locked
+            .state
+            .call(table, &mut self.token, call_id, step, copy);
+        *held = Some(locked);
         let Some(stored) = outcome.stored else {
             return outcome.reply;
         };

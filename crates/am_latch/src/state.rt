@@ -48,11 +48,12 @@ impl<L: LatchName> Model for LatchState<L> {
 
     ghost view = { λ h. h.engine };
 
-    ghost invariant = { IsLatchState L.table L.seats };
+    ghost invariant = { IsLatchState L.table L.seats L.most_runs };
 }
 
 impl<L: LatchName> LatchState<L> {
     pub(crate) fn new(engine: Engine, trace_token: Token, handed_token: TakenToken) -> LatchState<L>
+        requires most { engine.most_runs ≡ L.most_runs }
         requires engine { (log_of engine ≡ empty_log) × (engine.handed ≡ empty_log) }
         requires trace_token { (trace_token.table_id ≡ L.table.calls) × (trace_token.me ≡ (Log empty_log, [])) }
         requires handed_token { (handed_token.table_id ≡ L.table.handed) × (handed_token.me ≡ (Handed [], [])) }
@@ -76,7 +77,7 @@ impl<L: LatchName> LatchState<L> {
         ensures same { log_of self.new ≡ log_of self.old }
         ensures taken { IfOk result (λ p. taker.new ≡ taker.old ++ p.trace.items) }
         ensures next { IfOk result (λ p. (engine : EngineState) × IsEngineOf L.seats engine ×
-            IsSoundStore 65535 engine.trace × (engine.handed.trace ≡ taker.old) ×
+            IsSoundStore L.most_runs engine.trace × (engine.handed.trace ≡ taker.old) ×
             IsNextOf engine p.first record { trace = p.trace.items; calls = p.calls.items }) }
         ensures figures { IfOk result (λ p. AreFiguresAt taker.new p.figures) }
         ensures none { OnErr result (taker.new ≡ taker.old) }
@@ -122,7 +123,7 @@ impl<L: LatchName> LatchState<L> {
         requires copy { IsCopyOf step copy }
         ensures stepped { StoresCall (log_of self.old) call_id step result.reply (log_of self.new) }
         ensures stored { result.stored ≡ stored_at (length self.old.trace) step result.reply }
-        ensures engine { IsEngineOf L.seats self.old × IsSoundStore 65535 self.old.trace }
+        ensures engine { IsEngineOf L.seats self.old × IsSoundStore L.most_runs self.old.trace }
         ensures known { (seat_in token.old.me.0).receipts ≡ receipts_of call_id.seat (log_of self.old) }
         ensures memory { result.reply ≡ Refused OutOfMemory → MayWantMemory self.old step }
         ensures never_full { result.reply ≢ Refused SeatFull }

@@ -13,7 +13,7 @@ use Rattle.am_log.specs.declared.event.Part.TheVariants.{Piece as PiecePart, Hea
 use Rattle.am_log.specs.declared.pieces.Entry.{Entry}
 use Rattle.am_log.specs.declared.deletion.Deletion.{Deletion}
 use Rattle.am_log.specs.History.{Puts, Moves, Deletes, History, same, same_part, same_entry, generation, names}
-use Rattle.am_log.specs.History.{is_done, is_there, counts, pieces_of, whole, entries}
+use Rattle.am_log.specs.History.{is_done, is_there, counts, pieces_of, joined, entries}
 use Rattle.am_log.specs.Writers.{has_counted, deletion_of, IsAllowed}
 
 -- the snapshot that the floor names is of the present generation
@@ -139,7 +139,7 @@ uncounted name (Puts k other Head text ∷ b) never =
     let parts = or_parts ((k == k) && (same name other && counts k other Head b)) (has_counted k name b) (never k) in
     let rest = uncounted name b (λ g. (or_parts ((g == k) && (same name other && counts k other Head b))
     (has_counted g name b) (never g)).1) in
-    apart_from name (record { name = other; text = whole other (pieces_of b) ++ text }) (counts k other Head b)
+    apart_from name (record { name = other; text = joined other (pieces_of b) text }) (counts k other Head b)
     (entries b)
     (differs name other k (counts k other Head b) parts.0) rest
 uncounted name (Puts k other (PiecePart n) text ∷ b) never =
@@ -156,7 +156,7 @@ pub once : (b : History) → IsAllowed b → IsDistinct same_entry (entries b)
 unfolding IsDistinct
 once [] ok = tt
 once (Puts k name Head text ∷ b) ok =
-    head_by (record { name = name; text = whole name (pieces_of b) ++ text }) (counts k name Head b) (entries b)
+    head_by (record { name = name; text = joined name (pieces_of b) text }) (counts k name Head b) (entries b)
     (once b ok.1)
     (λ counted. uncounted name b (fresh k name b ok.1 ok.0.1 counted))
 once (Puts k name (PiecePart n) text ∷ b) ok =

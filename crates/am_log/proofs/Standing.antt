@@ -25,7 +25,7 @@ use Rattle.am_log.proofs.Floors.{all_behind_first}
 behind_part : (from at : ℕ) (name : Name) (part : Part) (text : List ℕ) (pieces : List Piece) → from < at
     → pieces_behind name part at text (behind from pieces) ≡ behind from (pieces_behind name part at text pieces)
 behind_part from at name (PiecePart n) text pieces low =
-    let p : Piece = record { entry = name; revision = at; text = text } in
+    let p : Piece = record { entry = name; number = n; revision = at; text = text } in
     ap (λ b. behind from pieces ++ cond b (p ∷ []) []) (sym (lt-ltb from at low))
     ∙ sym (filter-append (λ q. ltb from q.revision) pieces (p ∷ []))
 behind_part from at name Head text pieces low =

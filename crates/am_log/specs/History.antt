@@ -98,7 +98,8 @@ counts g name part before = (g == generation before) && not (is_there g name par
 
 -- the pieces whose heads haven't come, in their order
 abbrev pub pieces_behind : Name → Part → ℕ → List ℕ → List Piece → List Piece
-pieces_behind name (PiecePart n) at text pieces = pieces ++ record { entry = name; revision = at; text = text } ∷ []
+pieces_behind name (PiecePart n) at text pieces =
+    pieces ++ record { entry = name; number = n; revision = at; text = text } ∷ []
 pieces_behind name Head at text pieces = filter (λ p. not (same p.entry name)) pieces
 
 abbrev pub pieces_of : History → List Piece
@@ -114,10 +115,20 @@ abbrev pub whole : Name → List Piece → List ℕ
 whole name [] = []
 whole name (p ∷ pieces) = cond (same p.entry name) (p.text ++ whole name pieces) (whole name pieces)
 
+-- whether the numbers of an entry's pieces are this one and those that follow it, in their order
+abbrev pub are_in_turn : ℕ → Name → List Piece → Bool
+are_in_turn next name [] = true
+are_in_turn next name (p ∷ pieces) =
+    cond (same p.entry name) ((p.number == next) && are_in_turn (next + 1) name pieces) (are_in_turn next name pieces)
+
+-- the bytes of the entry that a head ends: none where not all pieces before it came in their turn
+abbrev pub joined : Name → List Piece → List ℕ → Option (List ℕ)
+joined name pieces head = cond (are_in_turn 0 name pieces) (Some (whole name pieces ++ head)) None
+
 -- the entry that a put ends, where it has its head and counts
 abbrev pub ended_by : Name → Part → List ℕ → List Piece → Option Entry
 ended_by name (PiecePart n) text pieces = None
-ended_by name Head text pieces = Some (record { name = name; text = whole name pieces ++ text })
+ended_by name Head text pieces = Some (record { name = name; text = joined name pieces text })
 
 abbrev pub counted_by : Change → History → Option Entry
 counted_by (Puts g name part text) before =

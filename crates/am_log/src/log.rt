@@ -72,8 +72,9 @@ impl Log {
         }
     }
 
-    /// Takes an event in its turn: the entry that it ends, where that counts. A floor that is known says nothing:
-    /// whoever wrote the snapshot that was begun by had read it.
+    /// Takes an event in its turn: the entry that it ends, where that counts. Its text is told only where all pieces
+    /// before its head came, each in its turn; a reader that began by a snapshot may have missed pieces of entries that
+    /// the snapshot has. A floor that is known says nothing: whoever wrote the snapshot that was begun by had read it.
     ///
     /// # Errors
     /// NoMemory, where memory was refused; WentBack, where the floor doesn't follow the one that is known, which no

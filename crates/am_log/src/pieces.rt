@@ -1,25 +1,26 @@
 //! Entries of several parts: those that came, and the entry that they make.
 
 ghost use Rattle.std.specs.Prelude.{◌≡◌, ◌++◌, IfOk, OnOk};
-ghost use Rattle.am_log.specs.History.{whole, pieces_behind, ended_by, first_behind};
+ghost use Rattle.am_log.specs.History.{pieces_behind, are_in_turn, joined, ended_by, first_behind};
 
 use crate::event::{Name, Part};
 use crate::text::Text;
 use std::alloc::{AllocError, Global};
 
-/// A part of an entry whose head hasn't come: the revision at which it came, and its bytes.
+/// A part of an entry whose head hasn't come: which one it is, the revision at which it came, and its bytes.
 #[derive(Drop)]
 pub struct Piece {
     pub entry: Name,
+    pub number: u64,
     pub revision: u64,
     pub text: Text,
 }
 
-/// An entry that counts.
+/// An entry that counts, and its bytes: none where a piece before its head didn't come, or not in its turn.
 #[derive(Drop)]
 pub struct Entry {
     pub name: Name,
-    pub text: Text,
+    pub text: Option<Text>,
 }
 
 /// Takes a part that counts: a piece is kept, and a head ends its entry.
@@ -35,10 +36,11 @@ pub(crate) fn take_part(
     ensures ended { IfOk result (λ e. e ≡ ended_by entry part text.now pieces.old.items) }
 {
     match part {
-        Part::Piece(_) => {
+        Part::Piece(number) => {
             let text = Text::copy_of(alloc, text)?;
             pieces.push(Piece {
                 entry,
+                number,
                 revision,
                 text,
             })?;
@@ -52,10 +54,34 @@ pub(crate) fn take_part(
     }
 }
 
-// The entry's pieces, one behind another, and its head.
-fn joined(alloc: Global, entry: Name, pieces: &[Piece], head: &[u8]) -> Result<Text, AllocError>
-    ensures { IfOk result (λ text. text ≡ whole entry pieces.now ++ head.now) }
+// Whether the entry's pieces are those of the numbers 0, 1 and so on, in this order.
+fn are_in_turn(entry: Name, pieces: &[Piece]) -> bool
+    ensures { result ≡ are_in_turn 0 entry pieces.now }
 {
+    let mut next = 0;
+    for piece in pieces {
+        if piece.entry.is(entry) {
+            if piece.number != next {
+                return false;
+            }
+            next += 1;
+        }
+    }
+    true
+}
+
+// The entry's pieces, one behind another, and its head, where all came in their turn.
+fn joined(
+    alloc: Global,
+    entry: Name,
+    pieces: &[Piece],
+    head: &[u8],
+) -> Result<Option<Text>, AllocError>
+    ensures { IfOk result (λ text. text ≡ joined entry pieces.now head.now) }
+{
+    if !are_in_turn(entry, pieces) {
+        return Ok(None);
+    }
     let mut text = Text::new(alloc);
     for piece in pieces {
         if piece.entry.is(entry) {
@@ -63,7 +89,7 @@ fn joined(alloc: Global, entry: Name, pieces: &[Piece], head: &[u8]) -> Result<T
         }
     }
     text.add(head)?;
-    Ok(text)
+    Ok(Some(text))
 }
 
 /// Behind which revision a reader has to begin who knows all entries up to the given one: others may have begun before.

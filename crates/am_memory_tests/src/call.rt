@@ -1,5 +1,6 @@
 //! The calls, in their order.
 
+use crate::entries::entry_of_two;
 use crate::fault::Fault;
 use crate::indexes::list_of_five;
 use crate::loads::loads_of_a_list;
@@ -15,15 +16,17 @@ pub(crate) enum Call {
     PlainAnswers,
     PlainAlone,
     Replies,
+    EntryOfTwo,
 }
 
 /// All calls.
-pub(crate) const CALLS: [Call; 5] = [
+pub(crate) const CALLS: [Call; 6] = [
     Call::ListOfFive,
     Call::LoadsOfAList,
     Call::PlainAnswers,
     Call::PlainAlone,
     Call::Replies,
+    Call::EntryOfTwo,
 ];
 
 impl Call {
@@ -34,6 +37,7 @@ impl Call {
             Call::PlainAnswers => "plain_answers",
             Call::PlainAlone => "plain_alone",
             Call::Replies => "replies",
+            Call::EntryOfTwo => "entry_of_two",
         }
     }
 
@@ -45,6 +49,7 @@ impl Call {
             Call::PlainAnswers => plain_answers(alloc),
             Call::PlainAlone => plain_alone(alloc),
             Call::Replies => replies(alloc),
+            Call::EntryOfTwo => entry_of_two(alloc),
         }
     }
 }

@@ -4,6 +4,7 @@
 #![tactic(auto)]
 
 mod call;
+mod entries;
 mod fault;
 mod indexes;
 mod loads;

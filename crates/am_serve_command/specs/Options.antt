@@ -10,14 +10,17 @@ use Rattle.am_command.specs.Arguments.{flag_rule}
 use Rattle.am_serve_command.specs.declared.choice.Listening.{Listening}
 use Rattle.am_serve_command.specs.declared.choice.Options.{Options}
 use Rattle.am_serve_command.specs.declared.choice.Options.TheVariants.{Alone, Listen}
+use Rattle.am_serve_command.specs.declared.choice.Place.{Place}
+use Rattle.am_serve_command.specs.declared.choice.Place.TheVariants.{Port, Socket, Both}
 use Rattle.am_serve_command.specs.declared.amserve.Setting.{Setting}
 
 -- the bounds of each number, and what it is where the words don't give it
 abbrev pub auto : Setting
 auto = record { least = 0; most = 64; default = Some 16 }
 
+-- that has a default says here only that the words needn't give it
 abbrev pub port : Setting
-port = record { least = 0; most = 65535; default = None }
+port = record { least = 0; most = 65535; default = Some 0 }
 
 abbrev pub sessions : Setting
 sessions = record { least = 1; most = 256; default = Some 1 }
@@ -26,7 +29,7 @@ sessions = record { least = 1; most = 256; default = Some 1 }
 abbrev pub staying_sessions : Setting
 staying_sessions = record { least = 1; most = 256; default = Some 64 }
 
--- that has a default says here only that the words needn't give it
+-- as of the port
 abbrev pub grace : Setting
 grace = record { least = 0; most = 3600; default = Some 0 }
 
@@ -61,25 +64,25 @@ number_rule rule setting = record rule {
 abbrev pub alone_app : App
 alone_app = with_rule (new_app (codes "alone")) (number_rule (option_rule (codes "auto")) auto)
 
--- `listen --port P [--sessions N] [--workers W] [--trace FILE] [--stop]`
+-- `listen [--port P] [--socket PATH] [--sessions N] [--workers W] [--trace FILE]`
 abbrev pub common_app : App
 common_app =
     let with_port = with_rule (new_app (codes "listen")) (number_rule (option_rule (codes "port")) port) in
-    let with_sessions = with_rule with_port (number_rule (option_rule (codes "sessions")) sessions) in
+    let with_socket = with_rule with_port (option_rule (codes "socket")) in
+    let with_sessions = with_rule with_socket (number_rule (option_rule (codes "sessions")) sessions) in
     let with_workers = with_rule with_sessions (number_rule (option_rule (codes "workers")) workers) in
-    let with_trace = with_rule with_workers (option_rule (codes "trace")) in
-    with_rule with_trace (flag_rule (codes "stop"))
+    with_rule with_workers (option_rule (codes "trace"))
 
--- and `[--hold MS] [--stay] [--grace S] [--idle S] [--idle-transaction S] [--socket PATH] [--log]`
+-- and `[--stop] [--hold MS] [--stay] [--grace S] [--idle S] [--idle-transaction S] [--log]`
 abbrev pub listen_app : App
 listen_app =
-    let with_hold = with_rule common_app (number_rule (option_rule (codes "hold")) hold) in
+    let with_stop = with_rule common_app (flag_rule (codes "stop")) in
+    let with_hold = with_rule with_stop (number_rule (option_rule (codes "hold")) hold) in
     let with_stay = with_rule with_hold (flag_rule (codes "stay")) in
     let with_grace = with_rule with_stay (number_rule (option_rule (codes "grace")) grace) in
     let with_idle = with_rule with_grace (number_rule (option_rule (codes "idle")) idle) in
     let with_lapse = with_rule with_idle (number_rule (option_rule (codes "idle-transaction")) staying_lapse) in
-    let with_socket = with_rule with_lapse (option_rule (codes "socket")) in
-    with_rule with_socket (flag_rule (codes "log"))
+    with_rule with_lapse (flag_rule (codes "log"))
 
 -- `amserve`, which has a version and wants a subcommand
 abbrev pub amserve_shape : Shape
@@ -108,11 +111,29 @@ abbrev pub SetsIfGiven : Setting → Option Text → Option ℕ → Type 0
 SetsIfGiven setting None number = number ≡ None
 SetsIfGiven setting (Some text) number = IsSomeAnd number (Sets setting (Some text))
 
--- the rows of `listen` give these numbers and these files, which have names, and say whether to await a STOP, whether
--- the server stays, and whether it tells how it does; limits of time, a socket, and that it tells, go with one that
+-- the port that is among it
+abbrev pub port_of : Place → Option ℕ
+port_of (Port number) = Some number
+port_of (Socket name) = None
+port_of (Both number name) = Some number
+
+-- the name of the socket that is among it
+abbrev pub socket_of : Place → Option Text
+socket_of (Port number) = None
+socket_of (Socket name) = Some name.now
+socket_of (Both number name) = Some name.now
+
+-- the texts of `--port` and `--socket`, of which there is one at least, name the place; a socket has a name
+pub record NamesPlace (port_text socket_text : Option Text) (place : Place) : Type 0 where
+  pub port_set : SetsIfGiven port port_text (port_of place)
+  pub socket_named : socket_of place ≡ socket_text
+  pub socket_has_name : socket_text ≢ Some []
+
+-- the rows of `listen` name the place, these numbers and the trace's file, which has a name, and say whether to await a
+-- STOP, whether the server stays, and whether it tells how it does; limits of time, and that it tells, go with one that
 -- stays
 pub record NamesListening (rows : List Row) (listening : Listening) : Type 0 where
-  pub port_set : Sets port (first_of (codes "port") rows) listening.port
+  pub place_named : NamesPlace (first_of (codes "port") rows) (first_of (codes "socket") rows) listening.place
   pub sessions_set : Sets (cond listening.stays staying_sessions sessions) (first_of (codes "sessions") rows)
       listening.sessions
   pub workers_set : Sets workers (first_of (codes "workers") rows) listening.workers
@@ -125,11 +146,9 @@ pub record NamesListening (rows : List Row) (listening : Listening) : Type 0 whe
   pub idle_set : SetsIfGiven idle (first_of (codes "idle") rows) listening.idle
   pub lapse_set : Sets (cond listening.stays staying_lapse lapse) (first_of (codes "idle-transaction") rows)
       listening.lapse
-  pub socket_named : option_map (λ file. file.now) listening.socket ≡ first_of (codes "socket") rows
-  pub socket_has_name : first_of (codes "socket") rows ≢ Some []
   pub log_told : IsTrue listening.is_logged ↔ (first_of (codes "log") rows ≡ Some (codes "true"))
   pub together : listening.stays ≡ false → (listening.grace ≡ None) × (listening.idle ≡ None) ×
-      (listening.socket ≡ None) × (listening.is_logged ≡ false)
+      (listening.is_logged ≡ false)
 
 -- the name of a subcommand and its rows name these options
 abbrev pub Selects : Text × List Row → Options → Type 0

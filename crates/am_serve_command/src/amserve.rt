@@ -5,11 +5,11 @@ ghost use Rattle.std.specs.Prelude.{codes, false, map, option_map};
 ghost use Rattle.clap.specs.Words.{app_of, first_of, found_of, rows_of, rule_of, subcommand_rows_of};
 ghost use Rattle.am_command.specs.Arguments.{IsCommand};
 ghost use Rattle.am_command.specs.Faults.{Refuses};
-ghost use Rattle.am_serve_command.specs.Options.{Names, NamesListening, Selects, Sets, SetsIfGiven};
+ghost use Rattle.am_serve_command.specs.Options.{Names, NamesListening, NamesPlace, Selects, Sets, SetsIfGiven};
 ghost use Rattle.am_serve_command.specs.Options.{alone_app, amserve_app, common_app, listen_app, number_rule};
 ghost use Rattle.am_serve_command.specs.Options.{option_rule};
 
-use crate::choice::{Listening, Options};
+use crate::choice::{Listening, Options, Place};
 use am_command::{OptionsFault, VERSION, fault_of, flag, text_in};
 use clap::{Arg, ArgMatches, Command, value_parser};
 use std::alloc::{AllocError, Global};
@@ -30,11 +30,11 @@ const AUTO: Setting = Setting {
     default: Some(16),
 };
 
-/// The port to listen at; 0 for any that is free.
+/// The port to listen at, where it is given; 0 for any that is free. The default only says that it needn't be.
 const PORT: Setting = Setting {
     least: 0,
     most: 65535,
-    default: None,
+    default: Some(0),
 };
 
 /// How many sessions are served.
@@ -105,11 +105,22 @@ pub fn options<'a, S: AsStr>(alloc: Global, words: &'a [S]) -> Result<Options<'a
     match amserve(alloc)?.try_get_matches_from(words) {
         Ok(matches) => match selected(&matches) {
             Some(options) => Ok(options),
-            None => Err(OptionsFault::Unserved(
-                "expected alone or listen, files that have names, and --stay beside --grace, --idle, --idle-transaction, --socket and --log",
-            )),
+            None => Err(OptionsFault::Unserved(expected(&matches))),
         },
         Err(error) => Err(fault_of(alloc, &error)),
+    }
+}
+
+/// What is expected of words that name no options.
+fn expected(matches: &ArgMatches<'_>) -> &'static str {
+    match matches.subcommand() {
+        Some(("listen", given))
+            if text_in(given, "port")
+                .or(text_in(given, "socket"))
+                .is_none() => { "listen wants --port P, --socket PATH or both" }
+        _ => {
+            "expected alone or listen, files that have names, and --stay beside --grace, --idle, --idle-transaction and --log"
+        }
     }
 }
 
@@ -140,14 +151,18 @@ fn alone<'a>(alloc: Global) -> Result<Command<'a>, AllocError>
         ))
 }
 
-/// `listen`, with what each server takes, `[--hold MS]` too, and what goes with one that stays:
-/// `[--stay] [--grace S] [--idle S] [--idle-transaction S] [--socket PATH] [--log]`. It has a frame of its own, so that
-/// none is large.
+/// `listen`, with what each server takes, `[--stop] [--hold MS]` too, and what goes with one that stays:
+/// `[--stay] [--grace S] [--idle S] [--idle-transaction S] [--log]`. It has a frame of its own, so that none is large.
 #[inline(never)]
 fn listen<'a>(alloc: Global) -> Result<Command<'a>, AllocError>
     ensures { IfOk result (λ command. IsCommand listen_app command) }
 {
     listen_common(alloc)?
+        .arg(flag(
+            alloc,
+            "stop",
+            "Serve until a line STOP, or the end, comes on standard input",
+        ))?
         .arg(number(
             alloc,
             "hold",
@@ -181,12 +196,6 @@ fn listen<'a>(alloc: Global) -> Result<Command<'a>, AllocError>
             "With --stay: abort a transaction where no line came for S seconds, 0 to 43200; 0 for none [default: 60]",
             STAYING_LAPSE,
         ))?
-        .arg(option(
-            alloc,
-            "socket",
-            "PATH",
-            "With --stay: listen at this socket of the file system too, which its owner alone may open",
-        ))?
         .arg(flag(
             alloc,
             "log",
@@ -194,13 +203,13 @@ fn listen<'a>(alloc: Global) -> Result<Command<'a>, AllocError>
         ))
 }
 
-/// `listen --port P [--sessions N] [--workers W] [--trace FILE] [--stop]`, in a frame of its own too.
+/// `listen [--port P] [--socket PATH] [--sessions N] [--workers W] [--trace FILE]`, in a frame of its own too.
 #[inline(never)]
 fn listen_common<'a>(alloc: Global) -> Result<Command<'a>, AllocError>
     ensures { IfOk result (λ command. IsCommand common_app command) }
 {
     Command::new(alloc, "listen")
-        .about("Serves sessions over TCP, on one store")
+        .about("Serves sessions at a port or a socket of the file system, or at both, on one store")
         .arg(number(
             alloc,
             "port",
@@ -208,11 +217,17 @@ fn listen_common<'a>(alloc: Global) -> Result<Command<'a>, AllocError>
             "The port to listen at, 0 to 65535; 0 for any that is free",
             PORT,
         ))?
+        .arg(option(
+            alloc,
+            "socket",
+            "PATH",
+            "The socket of the file system to listen at, which its owner alone may open",
+        ))?
         .arg(number(
             alloc,
             "sessions",
             "N",
-            "How many sessions are served, 1 to 256; with --stay at once [default: 1; with --stay 64]",
+            "How many sessions are served, 1 to 256, at a port and at a socket as many; with --stay at once [default: 1; with --stay 64]",
             SESSIONS,
         ))?
         .arg(number(
@@ -227,11 +242,6 @@ fn listen_common<'a>(alloc: Global) -> Result<Command<'a>, AllocError>
             "trace",
             "FILE",
             "The file that gets the trace; none by default",
-        ))?
-        .arg(flag(
-            alloc,
-            "stop",
-            "Serve until a line STOP, or the end, comes on standard input",
         ))
 }
 
@@ -296,7 +306,7 @@ fn listening_in<'a>(given: &ArgMatches<'a>) -> Option<Listening<'a>>
     let sessions = if stays { STAYING_SESSIONS } else { SESSIONS };
     let lapse = if stays { STAYING_LAPSE } else { LAPSE };
     let listening = Listening {
-        port: number_in(given, "port", PORT)?,
+        place: place_in(text_in(given, "port"), text_in(given, "socket"))?,
         sessions: u64::from(number_in(given, "sessions", sessions)?),
         workers: u64::from(number_in(given, "workers", WORKERS)?),
         hold: u64::from(number_in(given, "hold", HOLD)?),
@@ -306,14 +316,31 @@ fn listening_in<'a>(given: &ArgMatches<'a>) -> Option<Listening<'a>>
         grace: seconds_in(text_in(given, "grace"), GRACE)?,
         idle: seconds_in(text_in(given, "idle"), IDLE)?,
         lapse: u64::from(number_in(given, "idle-transaction", lapse)?),
-        socket: file_in(text_in(given, "socket"))?,
         is_logged: is_given(given, "log"),
     };
     let is_limited = listening.grace.is_some() || listening.idle.is_some();
-    if !stays && (is_limited || listening.socket.is_some() || listening.is_logged) {
+    if !stays && (is_limited || listening.is_logged) {
         return None;
     }
     Some(listening)
+}
+
+/// Where the texts of `--port` and `--socket` have a server listen. None where neither is given, the port isn't within
+/// its bounds, or the name is empty.
+fn place_in<'a>(port: Option<&str>, socket: Option<&'a str>) -> Option<Place<'a>>
+    ensures { MatchOption result
+        ((place : Place) → NamesPlace (option_map (λ text. text.now) port.entry)
+        (option_map (λ text. text.now) socket.entry) place → ⊥)
+        (NamesPlace (option_map (λ text. text.now) port.entry) (option_map (λ text. text.now) socket.entry)) }
+{
+    let port = number_if_given(port, PORT)?;
+    let socket = file_in(socket)?;
+    match (port, socket) {
+        (Some(port), Some(socket)) => Some(Place::Both { port, socket }),
+        (Some(port), None) => Some(Place::Port(port)),
+        (None, Some(socket)) => Some(Place::Socket(socket)),
+        (None, None) => None,
+    }
 }
 
 /// Whether a flag was given.
@@ -329,10 +356,22 @@ fn seconds_in(given: Option<&str>, setting: Setting) -> Option<Option<u64>>
         ((n : Option ℕ) → SetsIfGiven setting (option_map (λ text. text.now) given.entry) n → ⊥)
         (SetsIfGiven setting (option_map (λ text. text.now) given.entry)) }
 {
+    match number_if_given(given, setting)? {
+        None => Some(None),
+        Some(seconds) => Some(Some(u64::from(seconds))),
+    }
+}
+
+/// The number that an option's text gives, if there is one, where it is within its bounds.
+fn number_if_given(given: Option<&str>, setting: Setting) -> Option<Option<u16>>
+    ensures { MatchOption result
+        ((n : Option ℕ) → SetsIfGiven setting (option_map (λ text. text.now) given.entry) n → ⊥)
+        (SetsIfGiven setting (option_map (λ text. text.now) given.entry)) }
+{
     match given {
         None => Some(None),
         Some(text) => match number_of(Some(text), setting) {
-            Some(seconds) => Some(Some(u64::from(seconds))),
+            Some(number) => Some(Some(number)),
             None => None,
         },
     }

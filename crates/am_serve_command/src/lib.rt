@@ -5,4 +5,4 @@ mod amserve;
 mod choice;
 
 pub use amserve::options;
-pub use choice::{Listening, Options};
+pub use choice::{Listening, Options, Place};

@@ -1,8 +1,8 @@
-//! Serving at a port: what comes before the sessions, and behind them.
+//! Serving where connections come to: what comes before the sessions, and behind them.
 //!
 //! Each part has a frame of its own, beside that of the words, so that none is large.
 
-ghost use Rattle.std.specs.Prelude.{◌≤◌};
+ghost use Rattle.std.specs.Prelude.{◌≡◌, ◌≤◌, if◌then◌else◌};
 
 use am_console::{
     Console, OpenedTrace, Writer, await_stop, begin_trace, forget_trace, remove_socket,
@@ -10,8 +10,8 @@ use am_console::{
 };
 use am_doors::{Limits, Mode};
 use am_keeper::{Keeping, Watcher};
-use am_serve_command::Listening;
-use am_server::{BindFault, PortListener, bind};
+use am_serve_command::{Listening, Place};
+use am_server::{BindFault, Listener, bind, bind_socket, version_of};
 use am_session::draw_hash_key;
 use am_trace_file::{ListenFault, Outbox, TraceFile};
 use am_trace_writer::{LetGo, PieceTaker};
@@ -25,15 +25,15 @@ use std::sync::Wait;
 use std::thread::Threads;
 use std::time::Duration;
 
-/// What is there before the first connection: a port, and where one is named the file for the trace.
+/// What is there before the first connection: where it may come to, and where one is named the file for the trace.
 #[derive(Drop)]
 pub(crate) struct Opened {
-    pub(crate) port: PortListener,
+    pub(crate) listener: Listener,
     pub(crate) file: Option<TraceFile>,
 }
 
-/// Opens what is named, begins the trace with a writer of it, and says which port it is. Where that doesn't go it says
-/// why, and how the program ends.
+/// Opens what is named, begins the trace with a writer of it, and says which port or socket it is. Where that doesn't
+/// go it says why, and how the program ends.
 #[inline(never)]
 pub(crate) fn make_ready<
     'a,
@@ -50,15 +50,16 @@ pub(crate) fn make_ready<
 ) -> Result<(Opened, Option<Writer<'a, R>>), io::Result<ExitCode>> {
     let opened = match open(rt, listening, outbox) {
         Ok(opened) => opened,
-        Err(fault) => return Err(tell(rt, fault)),
+        Err(fault) => return Err(tell(rt, listening, &fault)),
     };
-    let writer = match begin_trace(rt, listening, outbox) {
+    let version = version_of(mode_of(listening));
+    let writer = match begin_trace(rt, listening, outbox, version) {
         Ok(writer) => writer,
         // The file said what fails.
         Err(fault) if outbox.is_failed() => return Err(Ok(ExitCode::from(fault.status()))),
-        Err(fault) => return Err(tell(rt, fault)),
+        Err(fault) => return Err(tell(rt, listening, &fault)),
     };
-    match say_port(rt, &opened.port, listening, opened.file.as_ref()) {
+    match say_ready(rt, &opened.listener, listening, opened.file.as_ref()) {
         Ok(()) => Ok((opened, writer)),
         Err(fault) => Err(Err(fault)),
     }
@@ -73,14 +74,15 @@ pub(crate) struct Served {
     is_cut: bool,
 }
 
-// Says which port it is. Where that can't be said nothing is left of the trace and the socket.
-fn say_port<R: Files + Print>(
+// Says which port it is, or which socket where there is no port. Where that can't be said nothing is left of the trace
+// and the socket.
+fn say_ready<R: Files + Print>(
     rt: &R,
-    port: &PortListener,
+    listener: &Listener,
     listening: &Listening<'_>,
     file: Option<&TraceFile>,
 ) -> io::Result<()> {
-    let said = println!(rt; "LISTEN {}", port.port());
+    let said = println!(rt; "LISTEN {}", listener.door());
     if said.is_err() {
         forget_trace(rt, file);
         remove_socket(rt, listening);
@@ -88,33 +90,50 @@ fn say_port<R: Files + Print>(
     said
 }
 
-// The file for the trace, where one is named, which the outbox gets, and then the port.
+// The file for the trace, where one is named, which the outbox gets, and then where connections come to.
 #[inline(never)]
 fn open<
-    R: AllocGlobal
-        + Files<File = File>
-        + Net<Listener = TcpListener, Stream = TcpStream>
-        + Eprint
-        + Wait,
+    R: AllocGlobal + Files<File = File> + Net<Listener = TcpListener, Stream = TcpStream> + Wait,
 >(rt: &R, listening: &Listening<'_>, outbox: &Outbox) -> Result<Opened, ListenFault> {
     let trace = OpenedTrace::open(rt, listening)?;
-    let Ok(port) = open_doors(rt, listening) else {
-        trace.forget(rt);
-        return Err(ListenFault::CannotListen);
+    let listener = match open_doors(rt, listening.place) {
+        Ok(listener) => listener,
+        Err(fault) => {
+            trace.forget(rt);
+            return Err(fault);
+        }
     };
     let file = trace.give_to(rt, outbox);
-    Ok(Opened { port, file })
+    Ok(Opened { listener, file })
 }
 
-// The port, and where one is named the socket.
 fn open_doors<R: AllocGlobal + Files + Net<Listener = TcpListener, Stream = TcpStream>>(
     rt: &R,
-    listening: &Listening<'_>,
-) -> Result<PortListener, BindFault> {
-    let port = bind(rt, listening.port)?;
-    match listening.socket {
-        Some(path) => port.with_socket(rt, path),
-        None => Ok(port),
+    place: Place<'_>,
+) -> Result<Listener, ListenFault> {
+    match place {
+        Place::Port(port) => bind(rt, port).map_err(at_port),
+        Place::Socket(path) => bind_socket(rt, path).map_err(at_socket),
+        Place::Both { port, socket } => bind(rt, port)
+            .map_err(at_port)?
+            .with_socket(rt, socket)
+            .map_err(at_socket),
+    }
+}
+
+// What is wrong where that is so at the port.
+fn at_port(fault: BindFault) -> ListenFault {
+    match fault {
+        BindFault::NoMemory => ListenFault::NoMemory,
+        BindFault::Refused(why) => ListenFault::CannotListenAtPort(why),
+    }
+}
+
+// The same at the socket.
+fn at_socket(fault: BindFault) -> ListenFault {
+    match fault {
+        BindFault::NoMemory => ListenFault::NoMemory,
+        BindFault::Refused(why) => ListenFault::CannotListenAtSocket(why),
     }
 }
 
@@ -122,9 +141,9 @@ fn open_doors<R: AllocGlobal + Files + Net<Listener = TcpListener, Stream = TcpS
 #[inline(never)]
 pub(crate) fn stop_at_word<
     R: AllocGlobal + Input + Net<Listener = TcpListener, Stream = TcpStream> + Wait + Clock,
->(rt: &R, port: &PortListener) {
+>(rt: &R, listener: &Listener) {
     await_stop(rt);
-    port.stop(rt);
+    listener.stop(rt);
 }
 
 /// Serves so many sessions, or so many at once until a stop, with so many workers beside them, on a store whose hash
@@ -132,7 +151,7 @@ pub(crate) fn stop_at_word<
 #[inline(never)]
 pub(crate) fn serve<R: AllocGlobal + Threads + Wait + RandomSource + Clock + Eprint + Sync>(
     rt: &R,
-    port: &PortListener,
+    listener: &Listener,
     listening: &Listening<'_>,
     sessions: u64,
     workers: u64,
@@ -143,8 +162,8 @@ pub(crate) fn serve<R: AllocGlobal + Threads + Wait + RandomSource + Clock + Epr
     requires workers { workers ≤ 16 }
 {
     match writer {
-        Some(writer) => serve_with(rt, port, listening, sessions, workers, outbox, writer),
-        None => serve_with(rt, port, listening, sessions, workers, outbox, LetGo),
+        Some(writer) => serve_with(rt, listener, listening, sessions, workers, outbox, writer),
+        None => serve_with(rt, listener, listening, sessions, workers, outbox, LetGo),
     }
 }
 
@@ -153,7 +172,7 @@ fn serve_with<
     T: PieceTaker + Drop + Send,
 >(
     rt: &R,
-    port: &PortListener,
+    listener: &Listener,
     listening: &Listening<'_>,
     sessions: u64,
     workers: u64,
@@ -173,12 +192,18 @@ fn serve_with<
             hold: listening.hold,
         },
     };
-    let mode = if listening.stays {
+    serve_kept(rt, listener, mode_of(listening), sessions, workers, keeping)
+}
+
+// How long the server serves.
+fn mode_of(listening: &Listening<'_>) -> Mode
+    ensures { result ≡ (if listening.now.stays then Mode.Staying else Mode.Bounded) }
+{
+    if listening.stays {
         Mode::Staying
     } else {
         Mode::Bounded
-    };
-    serve_kept(rt, port, mode, sessions, workers, keeping)
+    }
 }
 
 // So many seconds; none where there are 0.
@@ -197,7 +222,7 @@ fn serve_kept<
     V: Watcher + Drop + Send,
 >(
     rt: &R,
-    port: &PortListener,
+    listener: &Listener,
     mode: Mode,
     sessions: u64,
     workers: u64,
@@ -206,7 +231,7 @@ fn serve_kept<
     requires sessions { (1 ≤ sessions) × (sessions ≤ 256) }
     requires workers { workers ≤ 16 }
 {
-    match port.serve(rt, mode, sessions, workers, draw_hash_key(rt), keeping) {
+    match listener.serve(rt, mode, sessions, workers, draw_hash_key(rt), keeping) {
         Ok(run) => Ok(Served {
             events: run.events,
             commits: run.commits,
@@ -232,7 +257,7 @@ pub(crate) fn close<R: Files + Print + Eprint>(
         Ok(served) => served,
         Err(fault) => {
             forget_trace(rt, file);
-            return tell(rt, fault);
+            return tell(rt, listening, &fault);
         }
     };
     let stored = store_trace(rt, file, served.is_cut || is_failed);
@@ -242,8 +267,8 @@ pub(crate) fn close<R: Files + Print + Eprint>(
     match stored {
         // A server that stays said what fails when it failed.
         Err(fault) if stays => Ok(ExitCode::from(fault.status())),
-        _ if !stays && !served.accepted_all => tell(rt, ListenFault::CannotAccept),
-        Err(fault) => tell(rt, fault),
+        _ if !stays && !served.accepted_all => tell(rt, listening, &ListenFault::CannotAccept),
+        Err(fault) => tell(rt, listening, &fault),
         Ok(()) => Ok(ExitCode::SUCCESS),
     }
 }

@@ -20,10 +20,10 @@ use Rattle.am_server.proofs.WorkedSeats.{same_worked}
 pub same_then : (p q r : SessionSeatState) → HasSameReceipts p q → HasSameReceipts q r → HasSameReceipts p r
 same_then p q r f h = record { number = h.number ∙ f.number; receipts = h.receipts ∙ f.receipts }
 
-pub none_more : (p : SessionSeatState) (n : ℕ) (q r : SessionSeatState) → ServedInTurn p n q → HasSameReceipts q r →
-    ServedInTurn p n r
-none_more p zero q r f h = same_then p q r f h
-none_more p (suc n) q r f h = (f.0, f.1, f.2, f.3, f.4, f.5, f.6, same_then f.2 q r f.7 h)
+pub none_more : (most_runs : ℕ) (p : SessionSeatState) (n : ℕ) (q r : SessionSeatState) → ServedInTurn most_runs p n q →
+    HasSameReceipts q r → ServedInTurn most_runs p n r
+none_more most_runs p zero q r f h = same_then p q r f h
+none_more most_runs p (suc n) q r f h = (f.0, f.1, f.2, f.3, f.4, f.5, f.6, same_then f.2 q r f.7 h)
 
 -- the number of a session was drawn
 pub numbered : (old new : SessionSeatState) → HasDrawn old true new → IsNumbered new
@@ -45,10 +45,11 @@ same_open p q h none = ap (λ (rs : List Receipt). open_of rs) h.receipts ∙ no
 pub new_open : (p : SessionSeatState) → HasNewSeat p → open_at p ≡ None
 new_open p new = ap (λ (rs : List Receipt). open_of rs) new
 
-pub one_more : (p : SessionSeatState) (n : ℕ) (before began ended q : SessionSeatState) → ServedInTurn p n before →
-    HasSameReceipts before began → IsNumbered began → WasServed began ended → HasSameReceipts ended q →
-    ServedInTurn p (suc n) q
-one_more p n before began ended q f drawn number served gone = (before, began, ended, f, drawn, number, served, gone)
+pub one_more : (most_runs : ℕ) (p : SessionSeatState) (n : ℕ) (before began ended q : SessionSeatState) →
+    ServedInTurn most_runs p n before → HasSameReceipts before began → IsNumbered began →
+    WasServed most_runs began ended → HasSameReceipts ended q → ServedInTurn most_runs p (suc n) q
+one_more most_runs p n before began ended q f drawn number served gone =
+    (before, began, ended, f, drawn, number, served, gone)
 
 -- receipts were let go, or too many had been
 let_go_by : (p q : SessionSeatState) (b : Bool) → nat_lt 100000000000000 p.seat.let_go ≡ b →
@@ -68,12 +69,12 @@ pub all_let_go : (p q : SessionSeatState) → q.seat.receipts ≡ p.seat.receipt
 all_let_go p q receipts gone kept = let_go_by p q (nat_lt 100000000000000 p.seat.let_go) refl receipts gone kept
 
 -- what so many turns keep
-pub record IsKept (turns : ℕ) (p q : SessionSeatState) : Type 0 where
-  pub served : HasServedInTurn turns p q
+pub record IsKept (most_runs turns : ℕ) (p q : SessionSeatState) : Type 0 where
+  pub served : HasServedInTurn most_runs turns p q
   pub idle : open_at q ≡ None
 
-pub none_served : (p : SessionSeatState) → open_at p ≡ None → IsKept 0 p p
-none_served p idle = record {
+pub none_served : (most_runs : ℕ) (p : SessionSeatState) → open_at p ≡ None → IsKept most_runs 0 p p
+none_served most_runs p idle = record {
   served = record {
     same = refl;
     let_go = inl refl;
@@ -85,12 +86,14 @@ none_served p idle = record {
 }
 
 -- a session was served, and receipts were let go
-pub turn_served : (turns : ℕ) (p old drawn ended before q : SessionSeatState) (drew : Bool) → IsKept turns p old →
-    drew ≡ true → HasDrawn old drew drawn → WasServed drawn ended → open_at ended ≡ None →
+pub turn_served : (most_runs turns : ℕ) (p old drawn ended before q : SessionSeatState) (drew : Bool) →
+    IsKept most_runs turns p old → drew ≡ true → HasDrawn old drew drawn → WasServed most_runs drawn ended →
+    open_at ended ≡ None →
     ended.seat.number ≡ drawn.seat.number → before ≡ ended → HasSameReceipts before q → HoldsNoReceipt q.seat →
-    IsKept (turns + 1) p q
-turn_served turns p old drawn ended before q false k is h served idle number at gone free = absurd (true≢false (sym is))
-turn_served turns p old drawn ended before q true k is h served idle number at gone free =
+    IsKept most_runs (turns + 1) p q
+turn_served most_runs turns p old drawn ended before q false k is h served idle number at gone free =
+    absurd (true≢false (sym is))
+turn_served most_runs turns p old drawn ended before q true k is h served idle number at gone free =
     let same_drew = same_drawn old drawn true h in
     let let_go : HasSameReceipts ended q = subst (λ (s : SessionSeatState). HasSameReceipts s q) at gone in record {
       served = record {
@@ -98,17 +101,19 @@ turn_served turns p old drawn ended before q true k is h served idle number at g
         let_go = inr free;
         sessions = suc k.served.sessions;
         few = omega (arith, k.served.few);
-        served = one_more p k.served.sessions old drawn ended q k.served.served same_drew (numbered old drawn h) served
+        served = one_more most_runs p k.served.sessions old drawn ended q k.served.served same_drew
+            (numbered old drawn h) served
             let_go;
       };
       idle = same_open ended q let_go idle;
     }
 
 -- no number was drawn
-pub turn_refused : (turns : ℕ) (p old drawn before q : SessionSeatState) (drew : Bool) → IsKept turns p old →
+pub turn_refused : (most_runs turns : ℕ) (p old drawn before q : SessionSeatState) (drew : Bool) →
+    IsKept most_runs turns p old →
     HasDrawn old drew drawn → before ≡ drawn → HasSameReceipts before q → HoldsNoReceipt q.seat →
-    IsKept (turns + 1) p q
-turn_refused turns p old drawn before q drew k h at gone free =
+    IsKept most_runs (turns + 1) p q
+turn_refused most_runs turns p old drawn before q drew k h at gone free =
     let both = same_then old drawn q (same_drawn old drawn drew h)
     (subst (λ (s : SessionSeatState). HasSameReceipts s q) at gone) in record {
       served = record {
@@ -116,14 +121,15 @@ turn_refused turns p old drawn before q drew k h at gone free =
         let_go = inr free;
         sessions = k.served.sessions;
         few = omega (arith, k.served.few);
-        served = none_more p k.served.sessions old q k.served.served both;
+        served = none_more most_runs p k.served.sessions old q k.served.served both;
       };
       idle = same_open old q both k.idle;
     }
 
 -- fewer turns than there may be
-pub few_turns : (turns most : ℕ) (p q : SessionSeatState) → turns ≤ most → IsKept turns p q → HasServedInTurn most p q
-few_turns turns most p q le k = record {
+pub few_turns : (most_runs turns most : ℕ) (p q : SessionSeatState) → turns ≤ most → IsKept most_runs turns p q →
+    HasServedInTurn most_runs most p q
+few_turns most_runs turns most p q le k = record {
   same = k.served.same;
   let_go = k.served.let_go;
   sessions = k.served.sessions;
@@ -133,46 +139,49 @@ few_turns turns most p q le k = record {
 
 -- ---- all seats
 
-pub all_in_turn : (most : ℕ) (xs ys : List SessionSeatState) → length ys ≡ length xs →
-    ((i : ℕ) (d : SessionSeatState) → i < length xs → HasServedInTurn most (get_or xs i d) (get_or ys i d)) →
-    AllZip (HasServedInTurn most) xs ys
-all_in_turn most [] [] e h = tt
-all_in_turn most [] (y ∷ ys) e h = absurd (omega (arith, e))
-all_in_turn most (x ∷ xs) [] e h = absurd (omega (arith, e))
-all_in_turn most (x ∷ xs) (y ∷ ys) e h = (
+pub all_in_turn : (most_runs most : ℕ) (xs ys : List SessionSeatState) → length ys ≡ length xs →
+    ((i : ℕ) (d : SessionSeatState) → i < length xs → HasServedInTurn most_runs most (get_or xs i d) (get_or ys i d)) →
+    AllZip (HasServedInTurn most_runs most) xs ys
+all_in_turn most_runs most [] [] e h = tt
+all_in_turn most_runs most [] (y ∷ ys) e h = absurd (omega (arith, e))
+all_in_turn most_runs most (x ∷ xs) [] e h = absurd (omega (arith, e))
+all_in_turn most_runs most (x ∷ xs) (y ∷ ys) e h = (
   h 0 x (omega arith),
-  all_in_turn most xs ys (omega (arith, e)) (λ i d lt. h (suc i) d (omega arith)),
+  all_in_turn most_runs most xs ys (omega (arith, e)) (λ i d lt. h (suc i) d (omega arith)),
 )
 
-same_numbers : (most : ℕ) (xs ys : List SessionSeatState) → AllZip (HasServedInTurn most) xs ys →
+same_numbers : (most_runs most : ℕ) (xs ys : List SessionSeatState) → AllZip (HasServedInTurn most_runs most) xs ys →
     session_seat_numbers ys ≡ session_seat_numbers xs
-same_numbers most [] [] h = refl
-same_numbers most [] (y ∷ ys) h = absurd h
-same_numbers most (x ∷ xs) [] h = absurd h
-same_numbers most (x ∷ xs) (y ∷ ys) h = λ i. h.0.same i ∷ same_numbers most xs ys h.1 i
+same_numbers most_runs most [] [] h = refl
+same_numbers most_runs most [] (y ∷ ys) h = absurd h
+same_numbers most_runs most (x ∷ xs) [] h = absurd h
+same_numbers most_runs most (x ∷ xs) (y ∷ ys) h = λ i. h.0.same i ∷ same_numbers most_runs most xs ys h.1 i
 
-pub as_many_served : (most : ℕ) (xs ys : List SessionSeatState) → AllZip (HasServedInTurn most) xs ys →
+pub as_many_served : (most_runs most : ℕ) (xs ys : List SessionSeatState) → AllZip (HasServedInTurn most_runs most) xs
+    ys →
     length ys ≡ length xs
-as_many_served most [] [] h = refl
-as_many_served most [] (y ∷ ys) h = absurd h
-as_many_served most (x ∷ xs) [] h = absurd h
-as_many_served most (x ∷ xs) (y ∷ ys) h = omega (arith, as_many_served most xs ys h.1)
+as_many_served most_runs most [] [] h = refl
+as_many_served most_runs most [] (y ∷ ys) h = absurd h
+as_many_served most_runs most (x ∷ xs) [] h = absurd h
+as_many_served most_runs most (x ∷ xs) (y ∷ ys) h = omega (arith, as_many_served most_runs most xs ys h.1)
 
-pub all_came_back : (mode : Mode) (most : ℕ) (session_seats served : List SessionSeatState)
-    (worker_seats worked seats : List SeatState) → AllZip (HasServedInTurn most) session_seats served →
+pub all_came_back : (mode : Mode) (most_runs most : ℕ) (session_seats served : List SessionSeatState)
+    (worker_seats worked seats : List SeatState) → AllZip (HasServedInTurn most_runs most) session_seats served →
     AllZip (HasWorked mode) worker_seats worked →
     session_seat_numbers session_seats ++ seat_numbers worker_seats ≡ seat_numbers seats →
     session_seat_numbers served ++ seat_numbers worked ≡ seat_numbers seats
-all_came_back mode most session_seats served worker_seats worked seats sat worked_on e =
-    (λ i. same_numbers most session_seats served sat i ++ same_worked mode worker_seats worked worked_on i) ∙ e
+all_came_back mode most_runs most session_seats served worker_seats worked seats sat worked_on e =
+    (λ i. same_numbers most_runs most session_seats served sat i ++ same_worked mode worker_seats worked worked_on i) ∙
+    e
 
-pub all_of_turns : (most : ℕ) (xs ys : List SessionSeatState) → AllZip (HasServedInTurn most) xs ys →
+pub all_of_turns : (most_runs most : ℕ) (xs ys : List SessionSeatState) → AllZip (HasServedInTurn most_runs most) xs
+    ys →
     All HasNewSeat xs →
-    All (IsOfSessions most) ys
-all_of_turns most [] [] h new = All-nil (IsOfSessions most)
-all_of_turns most [] (y ∷ ys) h new = absurd h
-all_of_turns most (x ∷ xs) [] h new = absurd h
-all_of_turns most (x ∷ xs) (y ∷ ys) h new =
-    All-cons (IsOfSessions most) y ys
+    All (IsOfSessions most_runs most) ys
+all_of_turns most_runs most [] [] h new = All-nil (IsOfSessions most_runs most)
+all_of_turns most_runs most [] (y ∷ ys) h new = absurd h
+all_of_turns most_runs most (x ∷ xs) [] h new = absurd h
+all_of_turns most_runs most (x ∷ xs) (y ∷ ys) h new =
+    All-cons (IsOfSessions most_runs most) y ys
     (record { first = x; new = all_first HasNewSeat x xs (x ∷ xs) refl new; served = h.0 })
-    (all_of_turns most xs ys h.1 (all_rest HasNewSeat x xs (x ∷ xs) refl new))
+    (all_of_turns most_runs most xs ys h.1 (all_rest HasNewSeat x xs (x ∷ xs) refl new))

@@ -1,3 +1,4 @@
 pub mod ServerTraces
+pub mod Versions
 pub mod Pieces
 pub mod Listeners

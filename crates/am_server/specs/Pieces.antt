@@ -8,9 +8,9 @@ use Rattle.am_server.specs.declared.server_trace.ServerTrace.{ServerTrace}
 
 -- The latch was closed: behind what was taken before stood a rest, which was passed on and counted, and all of it is
 -- the trace of these seats.
-pub record HasClosed {T : Type 0} (took : T → Trace → T → Type 0) (seats : List SeatState) (before : Trace) (a : T)
-    (m : ℕ) (s : ServerTrace T) : Type 0 where
+pub record HasClosed {T : Type 0} (took : T → Trace → T → Type 0) (most_runs : ℕ) (seats : List SeatState)
+    (before : Trace) (a : T) (m : ℕ) (s : ServerTrace T) : Type 0 where
   pub rest : Trace
   pub passed : took a rest s.pieces
   pub count : s.events ≡ add_count m (length rest)
-  pub sound : IsTraceOf seats (before ++ rest) s.commits
+  pub sound : IsTraceOf most_runs seats (before ++ rest) s.commits

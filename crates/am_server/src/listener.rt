@@ -1,11 +1,12 @@
-//! A port of this machine.
+//! Where a server listens, and its serving there.
 
-ghost use Rattle.std.specs.Prelude.{◌≡◌, ◌≤◌, ◌<◌, ◌*◌, IfOk, is_some, None, Some, if◌then◌else◌};
+ghost use Rattle.std.specs.Prelude.{◌≡◌, ◌≤◌, ◌<◌, ◌*◌, IfOk, IsSomeAnd, is_some, None, if◌then◌else◌};
 ghost use Rattle.am_server.specs.Listeners.{IsAtPort, IsAtSocket};
 ghost use Rattle.am_server.specs.ServerTraces.{IsServerTrace};
 
 use crate::server::run;
 use crate::server_trace::ServerTrace;
+use crate::version::version_of;
 use am_counters::Counters;
 use am_doors::{Door, Doors, House, Mode, listen_at_port, listen_at_socket};
 use am_keeper::{Keeping, Watcher};
@@ -18,29 +19,31 @@ use std::net::{Net, TcpListener, TcpStream};
 use std::rt::{Clock, Files};
 use std::sync::Wait;
 use std::sync::atomic::{AtomicBool, Ordering};
-use std::thread;
 use std::thread::Threads;
 use std::time::Duration;
+use std::{io, thread};
 use thiserror::Error;
 
 /// How long it takes until a stop tries again to wake the thread that waits for a connection.
 const WAKE_MILLIS: u64 = 100;
 
-/// Why no port is listened at.
-#[derive(Clone, Copy, Debug, PartialEq, Eq, Error)]
+/// Why nothing is listened at.
+#[derive(Clone, Copy, Debug, Error)]
 pub enum BindFault {
-    /// The system refused it.
-    #[error("cannot listen")]
-    CannotListen,
+    /// Memory was refused.
+    #[error("no memory")]
+    NoMemory,
+    /// The system refused it, and says why.
+    #[error("{0}")]
+    Refused(io::Error),
 }
 
-/// A listener at a port of this machine, which takes connections from this machine alone, and where it is asked for at
-/// a socket of the file system too.
+/// A listener at a port of this machine, which takes connections from this machine alone, or at a socket of the file
+/// system, or at both.
 #[derive(Drop)]
-pub struct PortListener {
-    port: u16,
+pub struct Listener {
     door: Door,
-    socket: Option<Door>,
+    second: Option<Door>,
     alloc: Global,
     is_stopped: AtomicBool,
 }
@@ -48,49 +51,66 @@ pub struct PortListener {
 /// Listens at 127.0.0.1, at that port, or at any free one where it is 0.
 ///
 /// # Errors
-/// CannotListen, where the system refuses it, as it does where the port is in use.
+/// Refused, where the system refuses it, as it does where the port is in use.
 pub fn bind<R: AllocGlobal + Net<Listener = TcpListener, Stream = TcpStream>>(
     rt: &R,
     port: u16,
-) -> Result<PortListener, BindFault>
-    ensures port { IfOk result (λ l. IsAtPort l.port l.door) }
-    ensures alone { IfOk result (λ l. l.socket ≡ None) }
+) -> Result<Listener, BindFault>
+    ensures port { IfOk result (λ l. IsAtPort l.door) }
+    ensures alone { IfOk result (λ l. l.second ≡ None) }
 {
-    let Ok((listener, port)) = listen_at_port(rt, port) else {
-        return Err(BindFault::CannotListen);
-    };
-    Ok(PortListener {
-        port,
-        door: Door::Port { listener, port },
-        socket: None,
-        alloc: rt.alloc(),
-        is_stopped: AtomicBool::new(false),
-    })
+    match listen_at_port(rt, port) {
+        Ok((listener, port)) => Ok(Listener::at(rt, Door::Port { listener, port })),
+        Err(why) => Err(BindFault::Refused(why)),
+    }
 }
 
-impl PortListener {
-    /// The port.
-    pub fn port(&self) -> u16
-        ensures { result ≡ self.now.port }
+/// Listens at a socket of the file system, which its owner alone may open. A socket of that name at which nobody
+/// listens is replaced. The file stays when the listener goes.
+///
+/// # Errors
+/// Refused, where the system refuses it, as it does where another listens there, or where there is another file of that
+/// name; NoMemory, where memory was refused.
+pub fn bind_socket<R: AllocGlobal + Files + Net>(rt: &R, path: &str) -> Result<Listener, BindFault>
+    ensures socket { IfOk result (λ l. IsAtSocket path.now l.door) }
+    ensures alone { IfOk result (λ l. l.second ≡ None) }
+{
+    Ok(Listener::at(rt, door_at_socket(rt, path)?))
+}
+
+impl Listener {
+    fn at<R: AllocGlobal>(rt: &R, door: Door) -> Listener
+        ensures { (result.door ≡ door) × (result.second ≡ None) }
     {
-        self.port
+        Listener {
+            door,
+            second: None,
+            alloc: rt.alloc(),
+            is_stopped: AtomicBool::new(false),
+        }
     }
 
-    /// Listens at a socket of the file system too, which its owner alone may open. A socket of that name at which
-    /// nobody listens is replaced. The file stays when the listener goes.
+    /// The door, or the first of two.
+    pub fn door(&self) -> &Door
+        ensures { result.now ≡ self.now.door }
+    {
+        &self.door
+    }
+
+    /// Listens at a socket of the file system too, as [`bind_socket`] does.
     ///
     /// # Errors
-    /// CannotListen, where the system refuses it, as it does where there is a file of that name.
+    /// Those of [`bind_socket`].
     pub fn with_socket<R: AllocGlobal + Files + Net>(
         self,
         rt: &R,
         path: &str,
-    ) -> Result<PortListener, BindFault>
-        ensures socket { IfOk result (λ l. IsAtSocket path.now l.socket) }
-        ensures same { IfOk result (λ l. (l.port ≡ self.port) × (l.door ≡ self.door)) }
+    ) -> Result<Listener, BindFault>
+        ensures socket { IfOk result (λ l. IsSomeAnd l.second (IsAtSocket path.now)) }
+        ensures same { IfOk result (λ l. l.door ≡ self.door) }
     {
-        let socket = Some(door_at_socket(rt, path)?);
-        Ok(PortListener { socket, ..self })
+        let second = Some(door_at_socket(rt, path)?);
+        Ok(Listener { second, ..self })
     }
 
     /// No further connection is taken, and `serve` returns once the sessions begun have ended. May be called from
@@ -99,22 +119,22 @@ impl PortListener {
     pub fn stop<R: Net<Listener = TcpListener, Stream = TcpStream> + Wait + Clock>(&self, rt: &R) {
         self.is_stopped.store(true, Ordering::SeqCst);
         wake(rt, &self.door);
-        if let Some(socket) = &self.socket {
-            wake(rt, socket);
+        if let Some(second) = &self.second {
+            wake(rt, second);
         }
     }
 
     fn doors(&self) -> Doors<'_>
-        ensures port { result.port.now ≡ self.now.door }
-        ensures socket { is_some result.socket ≡ is_some self.now.socket }
+        ensures first { result.first.now ≡ self.now.door }
+        ensures second { is_some result.second ≡ is_some self.now.second }
     {
         Doors {
-            port: &self.door,
-            socket: self.socket.as_ref(),
+            first: &self.door,
+            second: self.second.as_ref(),
         }
     }
 
-    /// Serves connections over one store that begins with no records, until [`PortListener::stop`], so many at once at
+    /// Serves connections over one store that begins with no records, until [`Listener::stop`], so many at once at
     /// each door, each on a thread and a seat of its own, and lets so many workers merge beside them: one turn for each
     /// answered line. A bounded server serves no more connections than there are seats, and one that stays any number,
     /// one after another at each seat; further ones wait to be accepted. The trace is taken by pieces meanwhile, and
@@ -139,11 +159,12 @@ impl PortListener {
         requires sessions { (1 ≤ sessions) × (sessions ≤ 256) }
         requires workers { workers ≤ 16 }
         ensures { IfOk result (IsServerTrace T.took keeping.pieces mode
-            (if is_some self.now.socket then 2 * sessions else sessions) workers) }
+            (if is_some self.now.second then 2 * sessions else sessions) workers) }
     {
         let doors = self.doors();
         let seats = doors.seats(sessions);
-        let Ok(blank) = Blank::new(self.alloc, seats + workers) else {
+        let most_runs = version_of(mode).most_runs();
+        let Ok(blank) = Blank::new(self.alloc, seats + workers, most_runs) else {
             return Err(NoMemory);
         };
         let Ok((counters, counter_seats)) = Counters::open(self.alloc, seats as usize) else {
@@ -173,18 +194,18 @@ impl PortListener {
 
 // A door at a socket of the file system.
 fn door_at_socket<R: AllocGlobal + Files + Net>(rt: &R, path: &str) -> Result<Door, BindFault>
-    ensures { IfOk result (λ door. IsAtSocket path.now (Some door)) }
+    ensures { IfOk result (IsAtSocket path.now) }
 {
     let Ok(name) = String::from_str(rt.alloc(), path) else {
-        return Err(BindFault::CannotListen);
+        return Err(BindFault::NoMemory);
     };
-    let Ok(listener) = listen_at_socket(rt, path) else {
-        return Err(BindFault::CannotListen);
-    };
-    Ok(Door::Socket {
-        listener,
-        path: name,
-    })
+    match listen_at_socket(rt, path) {
+        Ok(listener) => Ok(Door::Socket {
+            listener,
+            path: name,
+        }),
+        Err(why) => Err(BindFault::Refused(why)),
+    }
 }
 
 // Connects until it could, so that a thread which waits at the door sees that it is to stop.

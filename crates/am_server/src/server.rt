@@ -8,6 +8,7 @@ ghost use Rattle.am_server.specs.ServerTraces.{HasServedInTurn, HasStored, HasWo
 ghost use Rattle.am_doors.specs.Modes.{most_sessions};
 ghost use Rattle.am_keeper.specs.Pieces.{HasTaken};
 ghost use Rattle.am_server.specs.Pieces.{HasClosed};
+ghost use Rattle.am_server.specs.Versions.{most_runs_of};
 
 use crate::server_trace::ServerTrace;
 use crate::turns::serve_in_turn;
@@ -98,7 +99,8 @@ fn serve_all<'a, L: LatchName + Send + Sync, R: Threads + Wait + Clock + Sync>(
     session_seats: Vec<SessionSeat<'a, L>>,
 ) -> Vec<SessionSeat<'a, L>>
     requires { All HasNewSeat session_seats.items }
-    ensures { AllZip (HasServedInTurn (most_sessions house.now.mode)) session_seats.entry.items result.items }
+    ensures { AllZip (HasServedInTurn L.most_runs (most_sessions house.now.mode)) session_seats.entry.items
+        result.items }
 {
     let mut session_seats = session_seats;
     serve_each(rt, alloc, house, session_seats.as_mut_slice());
@@ -113,7 +115,7 @@ fn serve_each<'a, L: LatchName + Send + Sync, R: Threads + Wait + Clock + Sync>(
     session_seats: &mut [SessionSeat<'a, L>],
 )
     requires { All HasNewSeat session_seats.old }
-    ensures { AllZip (HasServedInTurn (most_sessions house.now.mode)) session_seats.old session_seats.new }
+    ensures { AllZip (HasServedInTurn L.most_runs (most_sessions house.now.mode)) session_seats.old session_seats.new }
 {
     let threads = session_seats.len().max(1);
     thread::for_each_mut(
@@ -133,7 +135,7 @@ fn close_all<L: LatchName, T: PieceTaker + Drop, V: Watcher + Drop>(
 ) -> ServerTrace<T>
     requires { AreAll L.seats seats.items }
     ensures stored { (first : T) → HasTaken T.took [] first 0 keeper.taker keeper.pieces keeper.events →
-        HasStored T.took first seats.items result }
+        HasStored T.took L.most_runs first seats.items result }
     ensures accepted { result.accepted_all ≡ accepted_all }
 {
     pass_rest(latch, seats, keeper, accepted_all)
@@ -147,7 +149,7 @@ fn pass_rest<L: LatchName, T: PieceTaker + Drop, V: Watcher + Drop>(
     accepted_all: bool,
 ) -> ServerTrace<T>
     requires { AreAll L.seats seats.items }
-    ensures closed { HasClosed T.took seats.items keeper.taker keeper.pieces keeper.events result }
+    ensures closed { HasClosed T.took L.most_runs seats.items keeper.taker keeper.pieces keeper.events result }
     ensures accepted { result.accepted_all ≡ accepted_all }
 {
     let Keeper {
@@ -184,7 +186,8 @@ pub(crate) fn run<
     counter_seats: Vec<CounterSeat>,
     keeping: Keeping<T, V>,
 ) -> Result<ServerTrace<T>, NoMemory>
-    requires named { (blank.seats ≡ L.seats) × (blank.table ≡ L.table) }
+    requires named { (blank.seats ≡ L.seats) × (blank.table ≡ L.table) × (blank.most_runs ≡ L.most_runs) }
+    requires runs { L.most_runs ≡ most_runs_of house.now.mode }
     requires counter_seats { All (λ h. h.of ≡ counters.now) counter_seats.items }
     requires few { length counter_seats.items ≤ L.seats }
     requires places { house.now.connections ≡ length counter_seats.items }
@@ -204,6 +207,7 @@ pub(crate) fn run<
         &latch,
         counters,
         &house.turnstile,
+        &house.connections,
         &house.pacer,
         house.mode,
         seats,
@@ -224,8 +228,8 @@ pub(crate) fn run<
         { work_beside(rt, &latch, house, beside) },
         || -> Vec<SessionSeat<'_, L>>
             requires { All HasNewSeat session_seats.items }
-            ensures { AllZip (HasServedInTurn (most_sessions house.entry.now.mode)) session_seats.entry.items
-                result.items }
+            ensures { AllZip (HasServedInTurn L.most_runs (most_sessions house.entry.now.mode))
+                session_seats.entry.items result.items }
         { serve_all(rt, alloc, house, session_seats) },
     );
     take_seats(&mut all, session_seats);

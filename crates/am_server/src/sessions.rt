@@ -23,17 +23,17 @@ use std::sync::Wait;
 /// published there is the commit of one of its receipts.
 pub fn serve_session<
     'a,
+    L: LatchName,
     W: Wait + Clock,
     K: PartingSink<SessionSeat<'a, L>>,
     S: AnsweredSource<K>,
-    L: LatchName,
 >(rt: &W, alloc: Global, source: &mut S, sink: &mut K, session_seat: &mut SessionSeat<'a, L>) -> End
     requires source_countable { S.failures source.old < 2 ^ 63 }
     requires sink_countable { K.failures sink.old < 2 ^ 63 }
     requires sent { K.pending sink.old ≡ false }
     requires idle { open_at session_seat.old ≡ None }
     requires numbered { IsNumbered session_seat.old }
-    ensures served { Served S.comes K.holds K.parts seat_meaning 0 source.old sink.old session_seat.old
+    ensures served { Served S.comes K.holds K.parts (seat_meaning L.most_runs) 0 source.old sink.old session_seat.old
         source.new sink.new session_seat.new result }
     ensures idle { open_at session_seat.new ≡ None }
     ensures sent { IsSentOn result (K.pending sink.new ≡ false) }
@@ -41,7 +41,7 @@ pub fn serve_session<
     ensures sink_failures { K.failures sink.new ≡ K.failures sink.old + write_failures result }
     ensures seat { session_seat.new.seat.number ≡ session_seat.old.seat.number }
     ensures published { IsPublishedByReceipt session_seat.old → IsPublishedByReceipt session_seat.new }
-    ensures left { WasServed session_seat.old session_seat.new }
+    ensures left { WasServed L.most_runs session_seat.old session_seat.new }
 {
     am_session_seat::sessions_have_receipts();
     serve(rt, alloc, source, sink, session_seat, 0)
@@ -61,7 +61,7 @@ pub(crate) fn serve_connection<'a, W: Wait + Clock, S: Source + Drop, L: LatchNa
     requires numbered { IsNumbered session_seat.old }
     ensures idle { open_at session_seat.new ≡ None }
     ensures seat { session_seat.new.seat.number ≡ session_seat.old.seat.number }
-    ensures left { WasServed session_seat.old session_seat.new }
+    ensures left { WasServed L.most_runs session_seat.old session_seat.new }
 {
     // Each answer is written whole, and goes out at once where the system can be told so.
     let _ = stream.set_nodelay(true);

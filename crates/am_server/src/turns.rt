@@ -37,7 +37,7 @@ fn serve_at_place<'a, R: Wait + Clock, L: LatchName>(
     requires numbered { IsNumbered session_seat.old }
     ensures idle { open_at session_seat.new ≡ None }
     ensures seat { session_seat.new.seat.number ≡ session_seat.old.seat.number }
-    ensures left { WasServed session_seat.old session_seat.new }
+    ensures left { WasServed L.most_runs session_seat.old session_seat.new }
 {
     let shared = match Arc::new(alloc, stream) {
         Ok(shared) => shared,
@@ -52,13 +52,22 @@ fn serve_at_place<'a, R: Wait + Clock, L: LatchName>(
     };
     let Ok(mut source) = OwnLines::new(
         alloc,
-        ClientBytes::new(rt, &*shared, house.lapse, house.idle),
+        ClientBytes::new(
+            rt,
+            &*shared,
+            house.lapse,
+            house.idle,
+            &house.connections,
+            place,
+        ),
     ) else {
         refuse(&shared);
         return;
     };
     limit_idleness(&shared, house.idle);
-    house.connections.enter(rt, place, other);
+    house
+        .connections
+        .enter(rt, place, session_seat.number(), other);
     serve_connection(rt, alloc, house, &shared, &mut source, session_seat);
     house.connections.leave(rt, place);
 }
@@ -73,7 +82,7 @@ pub(crate) fn serve_in_turn<'a, R: Wait + Clock, L: LatchName>(
     session_seat: &mut SessionSeat<'a, L>,
 )
     requires { HasNewSeat session_seat.old }
-    ensures { HasServedInTurn (most_sessions house.now.mode) session_seat.old session_seat.new }
+    ensures { HasServedInTurn L.most_runs (most_sessions house.now.mode) session_seat.old session_seat.new }
 {
     'sessions: for turn in 0..house.mode.sessions_each() {
         let mut held = house.gate(place).lock(rt);

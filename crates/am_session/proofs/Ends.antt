@@ -1,10 +1,11 @@
 -- What an end says, by relations that follow from others.
-use Rattle.std.proofs.Common.{◌≡◌, ◌⊎◌, inl, inr, ℕ, List, [], Option, Some, None}
+use Rattle.std.proofs.Common.{◌≡◌, ◌⊎◌, inl, inr, ℕ, List, [], ◌∷◌, ◌++◌, Option, Some, None}
 use Rattle.am_serial.specs.Trace.{Trace}
 use Rattle.am_dialogue.specs.Exchanges.{Exchange}
 use Rattle.am_session.specs.ServedSessions.{EndsBy, IsEnded}
 use Rattle.am_session.specs.declared.end.End.{End}
-use Rattle.am_session.specs.declared.end.End.TheVariants.{Quit, EndOfInput, ReadFailed, WriteFailed, NoMemory}
+use Rattle.am_session.specs.declared.end.End.TheVariants.{Quit, EndedItself, EndOfInput, ReadFailed, WriteFailed}
+use Rattle.am_session.specs.declared.end.End.TheVariants.{NoMemory}
 
 module _ (took took' gave gave' parted parted' : List ℕ → Type 0) (done done' : Type 0)
     (answers answers' : List Exchange → Option Exchange → Trace → Type 0) (untouched untouched' : Type 0)
@@ -32,6 +33,20 @@ module _ (took took' gave gave' parted parted' : List ℕ → Type 0) (done done
     gives = gives _ t.gives;
     parts = parts _ t.parts;
     does = does t.exchanges None t.events t.does;
+  }
+  ends_by EndedItself t = record {
+    read = t.read;
+    waiting = t.waiting;
+    exchanges = t.exchanges;
+    events = t.events;
+    takes = takes _ t.takes;
+    whole = whole_there t.read t.waiting t.whole;
+    last = t.last;
+    not_quit = t.not_quit;
+    itself = t.itself;
+    lines = t.lines;
+    gives = gives _ t.gives;
+    does = does (t.exchanges ++ t.last ∷ []) None t.events t.does;
   }
   ends_by EndOfInput t = record {
     read = t.read;
@@ -64,6 +79,7 @@ module _ (took took' gave gave' parted parted' : List ℕ → Type 0) (done done
     count = t.count;
     takes = takes _ t.takes;
     whole = whole_there t.read t.waiting t.whole;
+    not_quit = t.not_quit;
     lines = t.lines;
     gives = gives _ t.gives;
     does = does t.exchanges (Some t.last) t.events t.does;

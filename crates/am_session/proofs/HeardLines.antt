@@ -1,7 +1,7 @@
 -- What was heard of a line, and how it was answered.
 use Rattle.std.proofs.Common.{◌≡◌, ℕ, ◌==◌, Bool, [], ◌∷◌, Option, Some, None, true, false, refl, sym, ap, ◌∙◌, subst}
-use Rattle.std.proofs.Common.{⊎_elim, inl, inr, ◌++◌, append-nil, cond, not}
-use Rattle.std.proofs.lemmas.Bool.{true≢false}
+use Rattle.std.proofs.Common.{⊎_elim, inl, inr, ◌++◌, append-nil, cond, not, ◌&&◌}
+use Rattle.std.proofs.lemmas.Bool.{true≢false, not-false}
 use Rattle.std.specs.Prelude.{MatchBool}
 use Rattle.am_record.specs.declared.step.Step.TheVariants.{Abort, Merge}
 use Rattle.am_record.specs.declared.step.Reply.{Reply}
@@ -20,11 +20,12 @@ use Rattle.am_dialogue.specs.declared.lines.ParsedLine.TheVariants.{Asked}
 use Rattle.am_dialogue.specs.declared.response.Response.{Response}
 use Rattle.am_dialogue.specs.Backends.{BackendMeaning}
 use Rattle.am_dialogue.specs.Conversation.{SessionPoint, Stays, TakesStep, AnswersParsed, AnswersLine, MergesAfter}
-use Rattle.am_dialogue.specs.Responses.{is_lapsed}
+use Rattle.am_dialogue.specs.Responses.{is_lapsed, ends_itself}
+use Rattle.am_dialogue.specs.Exchanges.{Exchange}
 use Rattle.am_session.specs.Heard.{MayHear, is_quit_heard}
 use Rattle.am_session.specs.Waits.{Waits}
 use Rattle.am_session.specs.OneAnswer.{RespondsTo}
-use Rattle.am_session.specs.ServedSessions.{goes_on}
+use Rattle.am_session.specs.ServedSessions.{is_answered, goes_on}
 use Rattle.am_session.specs.declared.heard.Heard.{Heard}
 
 -- what brings records is no QUIT
@@ -92,20 +93,30 @@ pub quit_heard : (is_late : Bool) (line : Line) (h : Heard) → MayHear is_late 
 quit_heard true line h may q = absurd (true≢false (sym q ∙ ap is_quit_heard may))
 quit_heard false line h may q = sym (heard_quit line may.0 may.1) ∙ sym (ap is_quit_heard may.2) ∙ q
 
--- behind any other the session goes on
-pub goes_on_heard : {B : Type 0} (means : BackendMeaning B) (waited new : SessionPoint B) (line : Line) (is_late : Bool)
-    (h : Heard) (response : Response) (own : Trace) → MayHear is_late line h →
-    RespondsTo means waited h response own new → is_quit_heard h ≡ false → goes_on (line, response) ≡ true
-goes_on_heard means waited new line true h response own may a q =
+-- any other is answered by a response
+pub answered_heard : {B : Type 0} (means : BackendMeaning B) (waited new : SessionPoint B) (line : Line)
+    (is_late : Bool) (h : Heard) (response : Response) (own : Trace) → MayHear is_late line h →
+    RespondsTo means waited h response own new → is_quit_heard h ≡ false → is_answered (line, response) ≡ true
+answered_heard means waited new line true h response own may a q =
     let b = subst (λ (x : Heard). RespondsTo means waited x response own new) may a in
-    ap (λ (r : Response). goes_on (line, r)) b.0
-goes_on_heard means waited new line false h response own may a q =
+    ap (λ (r : Response). is_answered (line, r)) b.0
+answered_heard means waited new line false h response own may a q =
     let no : is_quit (parsed line) ≡ false = sym (heard_quit line may.0 may.1) ∙ sym (ap is_quit_heard may.2) ∙ q in
     ap (λ (b : Bool). cond (is_lapsed response) true (not b)) no ∙ either_way (is_lapsed response)
   where
     either_way : (b : Bool) → cond b true true ≡ true
     either_way true = refl
     either_way false = refl
+
+-- behind one by which the session didn't end itself it goes on
+pub goes_on_behind : (e : Exchange) (on : Bool) → is_answered e ≡ true → on ≡ not (ends_itself e.1) → on ≡ true →
+    goes_on e ≡ true
+goes_on_behind e on answered is goes = ap (λ (b : Bool). b && not (ends_itself e.1)) answered ∙ sym is ∙ goes
+
+-- else it ended itself
+pub ended_behind : (response : Response) (on : Bool) → on ≡ not (ends_itself response) → on ≡ false →
+    ends_itself response ≡ true
+ended_behind response on is ends = not-false _ (sym is ∙ ends)
 
 -- the merge behind it
 pub merged_once : {B : Type 0} (means : BackendMeaning B) (auto : ℕ) (old new : SessionPoint B) (reply : Reply) →

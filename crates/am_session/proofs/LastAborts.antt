@@ -1,5 +1,5 @@
 -- From where a line is awaited, with what was active aborted, to the end.
-use Rattle.std.proofs.Common.{◌≡◌, inl, inr, ℕ, List, [], ◌++◌, take, Option, Some, None, subst, append-nil, true}
+use Rattle.std.proofs.Common.{◌≡◌, inl, inr, ℕ, List, [], ◌∷◌, ◌++◌, take, Option, Some, None, subst, append-nil, true}
 use Rattle.std.proofs.Common.{false}
 use Rattle.std.proofs.Common.{sym, ap, ◌∙◌}
 use Rattle.am_record.specs.declared.step.Step.TheVariants.{Abort}
@@ -14,7 +14,7 @@ use Rattle.am_dialogue.specs.Conversation.{SessionPoint, Converses, Leaves, Answ
 use Rattle.am_session.specs.Stops.{Rests, Talked}
 use Rattle.am_session.specs.declared.session.Stop.TheVariants as stop
 use Rattle.am_session.specs.ServedSessions.{Served}
-use Rattle.am_session.specs.declared.end.End.TheVariants.{Quit, EndOfInput, ReadFailed, WriteFailed}
+use Rattle.am_session.specs.declared.end.End.TheVariants.{Quit, EndedItself, EndOfInput, ReadFailed, WriteFailed}
 
 module _ {S K B : Type 0} (comes : S → List ℕ → Type 0) (holds : K → Option (List ℕ)) (parts : B → K → K → Type 0)
     (means : BackendMeaning B) (auto : ℕ) (s s' : S) (k k' : K) (b : B) (at : SessionPoint B) (b' : B)
@@ -58,6 +58,23 @@ module _ {S K B : Type 0} (comes : S → List ℕ → Type 0) (holds : K → Opt
     does = answered t.exchanges None t.events t.does;
   }
 
+  pub ended_itself : Talked comes holds means auto s k (b, []) s' k' at stop.EndedItself →
+      Served comes holds parts means auto s k b s' k' b' EndedItself
+  ended_itself t = record {
+    exchanges = t.exchanges;
+    last = t.last;
+    events = t.events ++ left.0;
+    read = t.read;
+    waiting = t.waiting;
+    takes = t.takes;
+    whole = t.whole;
+    not_quit = t.not_quit;
+    itself = t.itself;
+    lines = t.lines;
+    gives = t.gives;
+    does = answered (t.exchanges ++ t.last ∷ []) None t.events t.does;
+  }
+
   pub ended_failed : Talked comes holds means auto s k (b, []) s' k' at stop.ReadFailed →
       Served comes holds parts means auto s k b s' k' b' ReadFailed
   ended_failed t = record {
@@ -84,6 +101,7 @@ module _ {S K B : Type 0} (comes : S → List ℕ → Type 0) (holds : K → Opt
     count = t.count;
     takes = t.takes;
     whole = t.whole;
+    not_quit = t.not_quit;
     lines = t.lines;
     gives = t.gives;
     does = answered t.exchanges (Some t.last) t.events t.does;

@@ -9,14 +9,14 @@ use Rattle.am_sink.specs.SinkWrites.{Gave}
 use Rattle.am_sink.proofs.Writes.{gave_then}
 use Rattle.am_stream.proofs.Streams.{took_then}
 use Rattle.am_dialogue.specs.ParsedLine.{Line, parsed, is_quit}
-use Rattle.am_dialogue.specs.Responses.{response_text}
+use Rattle.am_dialogue.specs.Responses.{response_text, ends_itself}
 use Rattle.am_dialogue.specs.Exchanges.{Exchange, asked, texts}
 use Rattle.am_dialogue.specs.Backends.{BackendMeaning}
 use Rattle.am_dialogue.specs.Conversation.{SessionPoint, AnswersLine, MergesAfter, AnswersTorn, Converses}
-use Rattle.am_session.specs.ServedSessions.{IsEnded, AsksFor, GoOn, goes_on}
+use Rattle.am_session.specs.ServedSessions.{IsEnded, AsksFor, GoOn, is_answered, goes_on}
 use Rattle.am_session.specs.Waits.{Waits, MayWait}
 use Rattle.am_session.specs.Stops.{Rests, Talked}
-use Rattle.am_session.specs.declared.session.Stop.TheVariants.{Quit, EndOfInput, ReadFailed, WriteFailed}
+use Rattle.am_session.specs.declared.session.Stop.TheVariants.{Quit, EndedItself, EndOfInput, ReadFailed, WriteFailed}
 use Rattle.am_session.proofs.Streams.{took_total, appends_none}
 
 -- whole lines were read and answered, none of them QUIT
@@ -207,6 +207,10 @@ module _ {S K B : Type 0} (comes : S → List ℕ → Type 0) (holds : K → Opt
     took_more = took_total comes s0 s' (t.read ++ l.0) w' ((t.read ++ l.0) ++ w')
         (took_then comes [] w w' s0 s s' t.read l.0 t.took l.1) refl
 
+    -- and it is the last
+    asks_last : AsksFor (t.read ++ l.0) t.exchanges (line ∷ [])
+    asks_last = record { are = lines_more ∙ ap (λ z. z ++ line ∷ []) (sym t.asks); on = t.on }
+
     -- QUIT was read
     pub talk_quit : (b' : SessionPoint B) → MayWait means b b' → is_quit (parsed line) ≡ true →
         Talked comes holds means auto s0 k0 b0 s' k b' Quit
@@ -219,7 +223,7 @@ module _ {S K B : Type 0} (comes : S → List ℕ → Type 0) (holds : K → Opt
       whole = whole_of s s' w w' line ended l t.read t.done t.cut;
       last = line;
       quit = q;
-      lines = record { are = lines_more ∙ ap (λ z. z ++ line ∷ []) (sym t.asks); on = t.on };
+      lines = asks_last;
       gives = subst (λ (x : List ℕ). Gave holds k0 x k) (sym (append-nil (texts t.exchanges))) t.gave;
       parts = tt;
       does = rests s0 s k0 k b0 b b' w t waits.0 waits.1 waits.2;
@@ -236,7 +240,7 @@ module _ {S K B : Type 0} (comes : S → List ℕ → Type 0) (holds : K → Opt
   -- a line was read, and not wholly answered
   pub talk_torn : (s0 s s' : S) (k0 k k' : K) (b0 b b' : SessionPoint B) (w w' : List ℕ) (e : Exchange) (ended : Bool)
       (its : Trace) (n : ℕ)
-      → So s0 k0 b0 w s k b → TookLine comes w s e.0 ended w' s' → goes_on e ≡ true →
+      → So s0 k0 b0 w s k b → TookLine comes w s e.0 ended w' s' → is_answered e ≡ true →
       Gave holds k (take n (response_text e.1)) k' → AnswersLine means b e its b'
       → Talked comes holds means auto s0 k0 b0 s' k' b' WriteFailed
   talk_torn s0 s s' k0 k k' b0 b b' w w' e ended its n t l q g a = record {
@@ -248,9 +252,52 @@ module _ {S K B : Type 0} (comes : S → List ℕ → Type 0) (holds : K → Opt
     count = n;
     takes = took_more s0 s s' k0 k b0 b w w' e.0 ended t l;
     whole = whole_of s s' w w' e.0 ended l t.read t.done t.cut;
-    lines = asks_more s0 s s' k0 k b0 b w w' e.0 ended t l e refl q;
+    not_quit = q;
+    lines = asks_last s0 s s' k0 k b0 b w w' e.0 ended t l;
     gives = gave_then holds k0 k k' (texts t.exchanges) (take n (response_text e.1)) t.gave g;
     does = rests_there b0 b' t.exchanges (Some e) (t.events ++ its) (said_all s0 s k0 k b0 b w t (Some e) its b' a);
+  }
+
+  -- one exchange more, and the merge behind it
+  rests_more : (s0 s : S) (k0 k : K) (b0 b answered merging : SessionPoint B) (w : List ℕ) (e : Exchange)
+      (own merged : Trace) (t : So s0 k0 b0 w s k b) → AnswersLine means b e own answered →
+      MergesAfter means auto answered merged merging → Rests means auto b0 (t.exchanges ++ e ∷ []) None
+      ((t.events ++ (own ++ (merged ++ []))) ++ []) merging
+  rests_more s0 s k0 k b0 b answered merging w e own merged t a m = rests_there b0 merging (t.exchanges ++ e ∷ []) None
+      (t.events ++ (own ++ (merged ++ [])))
+      (t.said (e ∷ []) None (own ++ (merged ++ [])) merging (
+        own,
+        merged,
+        [],
+        answered,
+        merging,
+        a,
+        m,
+        (refl, refl),
+        refl,
+      ))
+
+  -- a line was read and answered by which the session ended itself
+  pub talk_itself : (s0 s s' : S) (k0 k k' : K) (b0 b answered merging : SessionPoint B) (w w' : List ℕ)
+      (e : Exchange) (ended : Bool) (own merged : Trace)
+      → So s0 k0 b0 w s k b → TookLine comes w s e.0 ended w' s' → is_answered e ≡ true → ends_itself e.1 ≡ true →
+      Gave holds k (response_text e.1) k' → AnswersLine means b e own answered
+      → MergesAfter means auto answered merged merging → Talked comes holds means auto s0 k0 b0 s' k' merging
+      EndedItself
+  talk_itself s0 s s' k0 k k' b0 b answered merging w w' e ended own merged t l q itself g a m = record {
+    read = t.read ++ l.0;
+    waiting = w';
+    exchanges = t.exchanges;
+    last = e;
+    events = (t.events ++ (own ++ (merged ++ []))) ++ [];
+    takes = took_more s0 s s' k0 k b0 b w w' e.0 ended t l;
+    whole = whole_of s s' w w' e.0 ended l t.read t.done t.cut;
+    not_quit = q;
+    itself = itself;
+    lines = asks_last s0 s s' k0 k b0 b w w' e.0 ended t l;
+    gives = subst (λ (x : List ℕ). Gave holds k0 x k') (texts-one t.exchanges e)
+        (gave_then holds k0 k k' (texts t.exchanges) (response_text e.1) t.gave g);
+    does = rests_more s0 s k0 k b0 b answered merging w e own merged t a m;
   }
 
   -- the last line, which no LF ended, was read and answered
@@ -269,16 +316,5 @@ module _ {S K B : Type 0} (comes : S → List ℕ → Type 0) (holds : K → Opt
     lines = asks_more s0 s s' k0 k b0 b w w' e.0 false t l e refl q;
     gives = subst (λ (x : List ℕ). Gave holds k0 x k') (texts-one t.exchanges e)
         (gave_then holds k0 k k' (texts t.exchanges) (response_text e.1) t.gave g);
-    does = rests_there b0 merging (t.exchanges ++ e ∷ []) None (t.events ++ (own ++ (merged ++ [])))
-        (t.said (e ∷ []) None (own ++ (merged ++ [])) merging (
-          own,
-          merged,
-          [],
-          answered,
-          merging,
-          a,
-          m,
-          (refl, refl),
-          refl,
-        ));
+    does = rests_more s0 s k0 k b0 b answered merging w e own merged t a m;
   }

@@ -1,26 +1,31 @@
 -- What a session did, by its end: which bytes it read, which text it wrote, and where it left its backend.
-use Rattle.std.specs.Prelude.{◌≡◌, ℕ, List, [], ◌∷◌, ◌++◌, Bool, true, cond, not, Option, Some, None, take, ◌⊎◌}
+use Rattle.std.specs.Prelude.{◌≡◌, ℕ, List, [], ◌∷◌, ◌++◌, Bool, true, cond, not, ◌&&◌, Option, Some, None, take, ◌⊎◌}
 use Rattle.am_stream.specs.Lines.{lines_of, HasNoLf}
 use Rattle.am_stream.specs.SourceReads.{Took}
 use Rattle.am_sink.specs.SinkWrites.{Gave}
 use Rattle.am_serial.specs.Trace.{Trace}
 use Rattle.am_dialogue.specs.ParsedLine.{Line, parsed, is_quit}
-use Rattle.am_dialogue.specs.Responses.{bye, response_text, is_lapsed}
+use Rattle.am_dialogue.specs.Responses.{bye, response_text, is_lapsed, ends_itself}
 use Rattle.am_dialogue.specs.Exchanges.{Exchange, asked, texts}
 use Rattle.am_dialogue.specs.Backends.{BackendMeaning}
 use Rattle.am_dialogue.specs.Conversation.{AnswersAll}
 use Rattle.am_session.specs.declared.session.Stop.{Stop}
 use Rattle.am_session.specs.declared.session.Stop.TheVariants as stop
 use Rattle.am_session.specs.declared.end.End.{End}
-use Rattle.am_session.specs.declared.end.End.TheVariants.{Quit, EndOfInput, ReadFailed, WriteFailed, NoMemory}
+use Rattle.am_session.specs.declared.end.End.TheVariants.{Quit, EndedItself, EndOfInput, ReadFailed, WriteFailed}
+use Rattle.am_session.specs.declared.end.End.TheVariants.{NoMemory}
 
 -- What follows these bytes begins a line of its own.
 abbrev pub IsEnded : List ℕ → Type 0
 IsEnded bytes = (more : List ℕ) → lines_of (bytes ++ more) ≡ lines_of bytes ++ lines_of more
 
--- whether a session goes on behind an exchange: it ends at QUIT, unless that came too late
+-- whether a line is answered by a response: QUIT isn't, unless it came too late
+abbrev pub is_answered : Exchange → Bool
+is_answered e = cond (is_lapsed e.1) true (not (is_quit (parsed e.0)))
+
+-- whether a session goes on behind an exchange: it ends at QUIT, and where it ended itself
 abbrev pub goes_on : Exchange → Bool
-goes_on e = cond (is_lapsed e.1) true (not (is_quit (parsed e.0)))
+goes_on e = is_answered e && not (ends_itself e.1)
 
 abbrev pub GoOn : List Exchange → Type 0
 GoOn [] = Unit {0}
@@ -53,6 +58,21 @@ module _ (took gave parted : List ℕ → Type 0) (nothing_comes : Type 0)
     pub gives : gave (texts exchanges ++ farewell)
     pub parts : parted (texts exchanges)
     pub does : answers exchanges None events
+
+  -- by the last line that was read the session ended itself; the bytes behind it were not answered
+  pub record EndedItselfThere : Type 0 where
+    pub read : List ℕ
+    pub waiting : List ℕ
+    pub exchanges : List Exchange
+    pub events : Trace
+    pub takes : took (read ++ waiting)
+    pub whole : AreWhole read waiting
+    pub last : Exchange
+    pub not_quit : is_answered last ≡ true
+    pub itself : ends_itself last.1 ≡ true
+    pub lines : AsksFor read exchanges (last.0 ∷ [])
+    pub gives : gave (texts (exchanges ++ last ∷ []))
+    pub does : answers (exchanges ++ last ∷ []) None events
 
   -- every line was answered, and nothing more comes
   pub record EndedThere : Type 0 where
@@ -88,7 +108,8 @@ module _ (took gave parted : List ℕ → Type 0) (nothing_comes : Type 0)
     pub count : ℕ
     pub takes : took (read ++ waiting)
     pub whole : AreWhole read waiting
-    pub lines : AsksFor read (exchanges ++ last ∷ []) []
+    pub not_quit : is_answered last ≡ true
+    pub lines : AsksFor read exchanges (last.0 ∷ [])
     pub gives : gave (texts exchanges ++ take count (response_text last.1))
     pub does : answers exchanges (Some last) events
 
@@ -100,6 +121,7 @@ module _ (took gave parted : List ℕ → Type 0) (nothing_comes : Type 0)
   -- QUIT is answered by BYE, or that answer was torn
   abbrev pub EndsBy : End → Type 0
   EndsBy Quit = QuitThere bye
+  EndsBy EndedItself = EndedItselfThere
   EndsBy EndOfInput = EndedThere
   EndsBy ReadFailed = ReadFailedThere
   EndsBy WriteFailed = AnswerTorn ⊎ ((count : ℕ) × QuitThere (take count bye))
@@ -108,6 +130,7 @@ module _ (took gave parted : List ℕ → Type 0) (nothing_comes : Type 0)
   -- and before that: nothing is written for QUIT yet
   abbrev pub StopsBy : Stop → Type 0
   StopsBy stop.Quit = QuitThere []
+  StopsBy stop.EndedItself = EndedItselfThere
   StopsBy stop.EndOfInput = EndedThere
   StopsBy stop.ReadFailed = ReadFailedThere
   StopsBy stop.WriteFailed = AnswerTorn

@@ -160,7 +160,7 @@ fn lapse<W: Wait, B: Backend>(rt: &W, backend: &mut B, session: &mut Session, tx
         (backend.new, session.new.staged) }
     ensures active { B.means.active backend.new ≡ session.new.active }
 {
-    let reply = backend.call(rt, Step::Abort(tx));
+    let reply = backend.call(rt, &mut None, Step::Abort(tx));
     session.reply(&reply);
     backend.end_turn(rt);
 }

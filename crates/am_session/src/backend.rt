@@ -5,8 +5,9 @@ ghost use Rattle.am_record.specs.Sessions.{IsAllowed, active_after};
 ghost use Rattle.am_dialogue.specs.Actions.{EndsAbort};
 ghost use Rattle.am_dialogue.specs.Backends.{BackendMeaning};
 
-use am_dialogue::HoldAnswer;
-use am_record::{Reply, Step};
+use am_dialogue::{ActiveSessions, EndAnswer, HoldAnswer};
+use am_record::{NoMemory, Reply, Step};
+use std::alloc::Global;
 use std::rt::Clock;
 use std::sync::Wait;
 
@@ -15,9 +16,13 @@ pub trait Backend {
     // Its active transaction, its steps, and what it shows.
     ghost means: { BackendMeaning Self };
 
+    /// What keeps others' steps out between two steps of a session.
+    type Held: Drop;
+
     /// Takes a step: a Begin where no transaction is active, a Do, Commit or Abort of the one that is. An Abort always
-    /// succeeds.
-    fn call<W: Wait>(&mut self, rt: &W, step: Step) -> Reply
+    /// succeeds. What keeps others out meanwhile, where something does, stays with the caller, who drops it before the
+    /// session waits for anything.
+    fn call<W: Wait>(&mut self, rt: &W, held: &mut Option<Self::Held>, step: Step) -> Reply
         requires { IsAllowed (means.active self.old) step }
         ensures steps { means.steps self.old step result self.new }
         ensures active { means.active self.new ≡ active_after (means.active self.old) result }
@@ -33,6 +38,18 @@ pub trait Backend {
     fn hold<W: Wait + Clock>(&self, rt: &W, millis: u64) -> HoldAnswer
         requires idle { means.active self.now ≡ None }
         ensures holds { means.holds self.now millis result };
+
+    /// The sessions that have a transaction active. No step is taken.
+    ///
+    /// # Errors
+    /// NoMemory, where memory was refused for them.
+    fn who<W: Wait + Clock>(&self, rt: &W, alloc: Global) -> Result<ActiveSessions, NoMemory>
+        ensures tells { means.tells self.now result };
+
+    /// Has the session of that number end as one does whose client is gone. Where it is the session itself, that is
+    /// told, and whoever asks ends it. No step is taken.
+    fn end<W: Wait>(&self, rt: &W, session: u64) -> EndAnswer
+        ensures ends { means.ends self.now session result };
 
     /// Whether a transaction is aborted where no line comes of its session for too long.
     fn may_lapse(&self) -> bool

@@ -1,6 +1,6 @@
 //! A session over any backend, line by line.
 
-ghost use Rattle.std.specs.Prelude.{◌≡◌, ◌+◌, ◌^◌, ◌<◌, true, false, OnOk, OnErr};
+ghost use Rattle.std.specs.Prelude.{◌≡◌, ◌+◌, ◌^◌, ◌<◌, true, false, None, IfOk, OnOk, OnErr};
 ghost use Rattle.am_sink.specs.SinkWrites.{Wrote};
 ghost use Rattle.am_stream.specs.Lines.{has_lf};
 ghost use Rattle.am_dialogue.specs.Responses.{response_text};
@@ -10,10 +10,12 @@ ghost use Rattle.am_session.specs.OneAnswer.{RespondsTo, GivesAnswer, GivesTorn}
 
 use crate::backend::Backend;
 use crate::heard::Heard;
+use crate::together::Together;
 use am_dialogue::{Action, ParsedLine, Response, Session, put_response};
-use am_record::Step;
+use am_record::{Op, Step};
 use am_sink::{Failed, Sink};
 use am_stream::Input;
+use std::alloc::Global;
 use std::rt::Clock;
 use std::sync::Wait;
 
@@ -24,11 +26,20 @@ fn await_ticket<W: Wait + Clock, B: Backend>(rt: &W, backend: &B, step: &Step) {
     }
 }
 
+// A load's records are copied before others' steps are kept out.
+fn let_go_before<H: Drop>(held: &mut Option<H>, step: &Step) {
+    if let Step::Do(_, Op::Load(_)) = step {
+        *held = None;
+    }
+}
+
 // Takes the step that is due for a line, if one is.
 fn respond<W: Wait + Clock, B: Backend>(
     rt: &W,
+    alloc: Global,
     backend: &mut B,
     session: &mut Session,
+    held: &mut Option<B::Held>,
     parsed: ParsedLine,
 ) -> Response
     requires { B.means.active backend.old ≡ session.old.active }
@@ -40,7 +51,8 @@ fn respond<W: Wait + Clock, B: Backend>(
         Action::Answer(response) => response,
         Action::Take(step) => {
             await_ticket(rt, backend, &step);
-            let reply = backend.call(rt, step);
+            let_go_before(held, &step);
+            let reply = backend.call(rt, held, step);
             session.reply(&reply);
             Response::Replied(reply)
         }
@@ -49,6 +61,14 @@ fn respond<W: Wait + Clock, B: Backend>(
             Response::Seen(session, commits)
         }
         Action::AskHold(millis) => Response::Hold(backend.hold(rt, millis)),
+        Action::TellWho => {
+            *held = None;
+            Response::of_who(backend.who(rt, alloc))
+        }
+        Action::AskEnd(number) => {
+            *held = None;
+            Response::End(backend.end(rt, number))
+        }
     }
 }
 
@@ -81,8 +101,10 @@ fn send<K: Sink>(
 // What is due for what was heard.
 fn respond_to<W: Wait + Clock, B: Backend>(
     rt: &W,
+    alloc: Global,
     backend: &mut B,
     session: &mut Session,
+    held: &mut Option<B::Held>,
     heard: Heard,
 ) -> Response
     requires { B.means.active backend.old ≡ session.old.active }
@@ -91,35 +113,48 @@ fn respond_to<W: Wait + Clock, B: Backend>(
     ensures active { B.means.active backend.new ≡ session.new.active }
 {
     match heard {
-        Heard::Line(parsed) => respond(rt, backend, session, parsed),
+        Heard::Line(parsed) => respond(rt, alloc, backend, session, held, parsed),
         Heard::Late => Response::Lapsed,
     }
 }
 
 /// Answers what was heard, and sends the answers on, unless a whole line is at hand and is answered at once: answers to
-/// lines that came together go out together.
+/// lines that came together go out together. Others' steps may be kept out behind it only where the session goes on at
+/// once in its transaction. Whether the session goes on: behind the END of itself it doesn't.
 pub(crate) fn answer<W: Wait + Clock, K: Sink, B: Backend>(
     rt: &W,
+    alloc: Global,
     input: &Input,
     sink: &mut K,
     backend: &mut B,
     session: &mut Session,
+    together: &mut Together<B::Held>,
     heard: Heard,
-) -> Result<(), Failed>
+) -> Result<bool, Failed>
     requires countable { K.failures sink.old < 2 ^ 63 }
     requires active { B.means.active backend.old ≡ session.old.active }
     ensures active { B.means.active backend.new ≡ session.new.active }
-    ensures answered { OnOk result (GivesAnswer K.holds B.means sink.old
-        (backend.old, session.old.staged) heard sink.new (backend.new, session.new.staged)) }
+    ensures free { has_lf input.now ≡ false → together.new.held ≡ None }
+    ensures idle { session.new.active ≡ None → together.new.held ≡ None }
+    ensures answered { IfOk result (λ goes_on. GivesAnswer K.holds B.means sink.old
+        (backend.old, session.old.staged) heard goes_on sink.new (backend.new, session.new.staged)) }
     ensures sent { OnOk result (has_lf input.now ≡ false → K.pending sink.new ≡ false) }
+    ensures sent_last { IfOk result (λ goes_on. goes_on ≡ false → K.pending sink.new ≡ false) }
     ensures ok { OnOk result (K.failures sink.new ≡ K.failures sink.old) }
     ensures failed { OnErr result (K.failures sink.new ≡ K.failures sink.old + 1) }
     ensures torn { OnErr result (GivesTorn K.holds B.means sink.old
         (backend.old, session.old.staged) heard sink.new (backend.new, session.new.staged)) }
 {
-    let response = respond_to(rt, backend, session, heard);
+    let response = respond_to(rt, alloc, backend, session, &mut together.held, heard);
+    let is_last = response.ends_itself();
+    let goes_on = session.active().is_some() && input.has_line() && !is_last;
+    together.note(&response, goes_on);
     let is_kept = session.active().is_none() && gives_way(rt, backend);
-    send(sink, input, &response, is_kept)
+    if is_last || is_kept || !input.has_line() {
+        together.send();
+    }
+    send(sink, input, &response, is_last || is_kept)?;
+    Ok(!is_last)
 }
 
 /// Merges once, unless `auto` is 0.
@@ -130,7 +165,7 @@ pub(crate) fn merge<W: Wait, B: Backend>(rt: &W, backend: &mut B, session: &mut 
     ensures active { B.means.active backend.new ≡ session.new.active }
 {
     if auto != 0 {
-        let reply = backend.call(rt, Step::Merge(auto));
+        let reply = backend.call(rt, &mut None, Step::Merge(auto));
         session.reply(&reply);
     }
 }

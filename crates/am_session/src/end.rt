@@ -5,6 +5,8 @@
 pub enum End {
     /// QUIT was answered. What came behind it was not.
     Quit,
+    /// END of the session's own number was answered. What came behind it was not.
+    EndedItself,
     /// The source has no further bytes, and each line was answered.
     EndOfInput,
     /// The source failed. Each line that it had ended was answered.

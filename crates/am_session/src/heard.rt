@@ -38,10 +38,10 @@ impl Heard {
         }
     }
 
-    /// Whether it would hold.
-    pub(crate) fn is_hold(&self) -> bool {
+    /// Whether it is answered while another session holds.
+    pub(crate) fn is_urgent(&self) -> bool {
         match self {
-            Heard::Line(parsed) => parsed.is_hold(),
+            Heard::Line(parsed) => parsed.is_urgent(),
             Heard::Late => false,
         }
     }

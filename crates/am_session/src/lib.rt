@@ -9,6 +9,7 @@ mod hash_key_draw;
 mod heard;
 mod parting_sink;
 mod session;
+mod together;
 
 pub use backend::Backend;
 pub use end::End;

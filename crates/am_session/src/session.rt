@@ -12,6 +12,7 @@ use crate::conversation::{answer, merge};
 use crate::end::End;
 use crate::heard::{Heard, hear};
 use crate::parting_sink::PartingSink;
+use crate::together::Together;
 use am_dialogue::Session;
 use am_record::Step;
 use am_sink::{Failed, Sink};
@@ -24,19 +25,21 @@ use std::sync::Wait;
 #[derive(Clone, Copy)]
 enum Stop {
     Quit,
+    EndedItself,
     EndOfInput,
     ReadFailed,
     WriteFailed,
 }
 
-// Returns once the line may be answered. Who would hold hears at once where another does.
+// Returns once the line may be answered. Who would hold hears at once where another does, and so does who looks for a
+// session that is in the way, or would end it.
 fn await_turn<W: Wait + Clock, B: Backend>(rt: &W, backend: &B, session: &Session, heard: &Heard) {
-    if session.active().is_none() && !heard.is_hold() {
+    if session.active().is_none() && !heard.is_urgent() {
         backend.await_turn(rt);
     }
 }
 
-// Answers the lines of a source up to the first QUIT.
+// Answers the lines of a source up to the first QUIT, or the END of the session itself.
 fn talk<W: Wait + Clock, K: Sink, S: AnsweredSource<K>, B: Backend>(
     rt: &W,
     alloc: Global,
@@ -60,6 +63,7 @@ fn talk<W: Wait + Clock, K: Sink, S: AnsweredSource<K>, B: Backend>(
     ensures source_failures { S.failures source.new ≡ S.failures source.old + reads_failed result }
     ensures sink_failures { K.failures sink.new ≡ K.failures sink.old + writes_failed result }
 {
+    let mut together = Together::new();
     'lines: for _ in rt.forever() {
         let Ok(next) = next_line(rt, input, source, sink, line, backend, session) else {
             return Stop::ReadFailed;
@@ -73,10 +77,22 @@ fn talk<W: Wait + Clock, K: Sink, S: AnsweredSource<K>, B: Backend>(
         if heard.is_quit() {
             return Stop::Quit;
         }
-        let Ok(()) = answer(rt, input, sink, backend, session, heard) else {
+        let Ok(goes_on) = answer(
+            rt,
+            alloc,
+            input,
+            sink,
+            backend,
+            session,
+            &mut together,
+            heard,
+        ) else {
             return Stop::WriteFailed;
         };
         merge(rt, backend, session, auto);
+        if !goes_on {
+            return Stop::EndedItself;
+        }
         if !found.is_ended {
             return Stop::EndOfInput;
         }
@@ -91,14 +107,14 @@ fn leave<W: Wait, B: Backend>(rt: &W, backend: &mut B, active: Option<u64>)
     ensures none { B.means.active backend.new ≡ None }
 {
     if let Some(tx) = active {
-        let _ = backend.call(rt, Step::Abort(tx));
+        let _ = backend.call(rt, &mut None, Step::Abort(tx));
     }
 }
 
-/// Answers the lines of a source up to the first QUIT, each by one line, merges once after each answer where `auto` is
-/// above 0, and at the end aborts what is active. The sink has nothing that isn't sent on. Where the source says that
-/// no line came in time, and the backend that its transactions may lapse, the one that is active is aborted, and the
-/// line that comes then is told so, whatever it says, QUIT too.
+/// Answers the lines of a source up to the first QUIT or the END of the session itself, each by one line, merges once
+/// after each answer where `auto` is above 0, and at the end aborts what is active. The sink has nothing that isn't
+/// sent on. Where the source says that no line came in time, and the backend that its transactions may lapse, the one
+/// that is active is aborted, and the line that comes then is told so, whatever it says, QUIT too.
 ///
 /// The backend takes the steps of the lines, the merges and the last Abort; each line that is written is the text of a
 /// line's fault, or of the reply to its step, however the source cuts its bytes. Nothing is unsent whenever the source
@@ -144,6 +160,7 @@ pub fn serve<W: Wait + Clock, K: PartingSink<B>, S: AnsweredSource<K>, B: Backen
     leave(rt, backend, session.active());
     backend.end_session(rt);
     match stop {
+        Stop::EndedItself => End::EndedItself,
         Stop::EndOfInput => End::EndOfInput,
         Stop::ReadFailed => End::ReadFailed,
         Stop::WriteFailed => End::WriteFailed,

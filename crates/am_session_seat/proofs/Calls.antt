@@ -66,12 +66,14 @@ last_one rs r =
     ∙ ap Some (get_or-append_seam rs r [] r)
 
 -- a seat that may have let receipts go, and then made the call, by how it is seen
-pub makes_call : (seats : ℕ) (old shown new : SessionSeatState) (free : SeatState) (step : Step) (reply : Reply) →
+pub makes_call : (seats most_runs : ℕ) (old shown new : SessionSeatState) (free : SeatState) (step : Step)
+    (reply : Reply) →
     shown ≡ old → HasSameReceipts shown.seat free → HasReceiptOf free step reply new.seat →
-    (reply ≡ Refused NoMemory → CallMayWant seats free step) → new.counter_seat ≡ published shown.counter_seat reply →
-    new.number ≡ shown.number → MakesCall old step reply new
-makes_call seats old shown new free step reply e freed called memory counted numbered =
-    subst (λ (p : SessionSeatState). MakesCall p step reply new) e
+    (reply ≡ Refused NoMemory → CallMayWant seats most_runs free step) → new.counter_seat ≡ published shown.counter_seat
+    reply →
+    new.number ≡ shown.number → MakesCall most_runs old step reply new
+makes_call seats most_runs old shown new free step reply e freed called memory counted numbered =
+    subst (λ (p : SessionSeatState). MakesCall most_runs p step reply new) e
     (record {
       free = free;
       freed = freed;

@@ -10,8 +10,10 @@ use Rattle.am_latch.specs.declared.latch_name.LatchName as latch_name
 use Rattle.am_counters.proofs.counters.Counters.TheSendSync as counters
 use Rattle.am_counters.proofs.counters.CounterSeat.TheSendSync as counter_seat
 use Rattle.am_counters.specs.contracts.counters.Counters as Counters
+use Rattle.am_doors.proofs.connections.Connections.TheSendSync as connections
 use Rattle.am_doors.proofs.pacer.MergePacer.TheSendSync as pacer
 use Rattle.am_doors.proofs.turnstile.Turnstile.TheSendSync as turnstile
+use Rattle.am_doors.specs.contracts.connections.Connections as Connections
 use Rattle.am_doors.specs.contracts.pacer.MergePacer as MergePacer
 use Rattle.am_doors.specs.contracts.turnstile.Turnstile as Turnstile
 use Rattle.am_session_seat.specs.contracts.session_seat.SessionSeat as SessionSeat
@@ -32,7 +34,10 @@ place_send a T g = view_send (Inside.the_row a T g) _ _ _ _
               plain_send _ _ _ _ _,
               (
                 shr_send _ _ Turnstile.the_row turnstile.the_sync,
-                (shr_send _ _ MergePacer.the_row pacer.the_sync, (plain_send _ _ _ _ _, (plain_send _ _ _ _ _, tt))),
+                (
+                  shr_send _ _ Connections.the_row connections.the_sync,
+                  (shr_send _ _ MergePacer.the_row pacer.the_sync, (plain_send _ _ _ _ _, (plain_send _ _ _ _ _, tt))),
+                ),
               ),
             ),
           ),

@@ -93,9 +93,9 @@ behind s s' st r false h = (
       sym (append-nil (taken s.receipts)),
 )
 
-went : (old new : SessionSeatState) (st : Step) (r : Reply) → MakesCall old st r new →
+went : (most_runs : ℕ) (old new : SessionSeatState) (st : Step) (r : Reply) → MakesCall most_runs old st r new →
     HasReceipts old ((st, r) ∷ []) new
-went old new st r h =
+went most_runs old new st r h =
     let b = behind h.free new.seat st r (is_stored r) h.called in
     let there = b.1 ∙ ap (λ (rs : List Receipt). taken rs ++ cond (is_stored r) ((st, r) ∷ []) []) h.freed.receipts in
     record {
@@ -105,10 +105,10 @@ went old new st r h =
           (publishes old.counter_seat (taken old.seat.receipts) st r is);
     }
 
-pub receipts_go : HoldsOfSteps seat_meaning HasReceipts
-receipts_go = record {
+pub receipts_go : (most_runs : ℕ) → HoldsOfSteps (seat_meaning most_runs) HasReceipts
+receipts_go most_runs = record {
   stays = λ s. like s s refl refl;
-  steps = went;
+  steps = went most_runs;
   shows = λ old new number commits h. like old new (ap (λ (p : SessionSeatState). p.seat) h.saw)
       (ap (λ (p : SessionSeatState). p.counter_seat.published) h.saw);
   joins = joined;

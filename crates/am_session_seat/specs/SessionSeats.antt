@@ -1,5 +1,6 @@
 -- A session's seats, and what it does with them.
-use Rattle.std.specs.Prelude.{◌≡◌, ◌≤◌, ◌⊎◌, ℕ, List, ◌∷◌, [], ◌++◌, Bool, Option, max, map, filter, length, MatchBool}
+use Rattle.std.specs.Prelude.{◌≡◌, ◌≢◌, ◌≤◌, ◌==◌, ◌⊎◌, ℕ, List, ◌∷◌, [], ◌++◌, Bool, Option, max, map, filter, length}
+use Rattle.std.specs.Prelude.{MatchBool}
 use Rattle.am_record.specs.declared.step.Step.{Step}
 use Rattle.am_record.specs.declared.step.Reply.{Reply}
 use Rattle.am_record.specs.declared.step.Reply.TheVariants.{Committed, Refused}
@@ -12,6 +13,8 @@ use Rattle.am_latch.specs.Ties.{open_of}
 use Rattle.am_latch.specs.Wants.{CallMayWant}
 use Rattle.am_counters.specs.Counters.{CounterHistory, most_draws}
 use Rattle.am_dialogue.specs.Backends.{BackendMeaning}
+use Rattle.am_dialogue.specs.declared.response.EndAnswer.{EndAnswer}
+use Rattle.am_dialogue.specs.declared.response.EndAnswer.TheVariants.{EndsItself}
 
 pub record SessionSeatState : Type 0 where
   pub seat : SeatState
@@ -33,12 +36,13 @@ pub record HasSameReceipts (s t : SeatState) : Type 0 where
   pub receipts : t.receipts ≡ s.receipts
 
 -- the seat, which may have let receipts go, has one of the call, memory is refused only to one that may want it at a
--- latch with some number of seats, and a commit is published
-pub record MakesCall (old : SessionSeatState) (step : Step) (reply : Reply) (new : SessionSeatState) : Type 0 where
+-- latch with some number of seats whose store makes so many runs at most, and a commit is published
+pub record MakesCall (most_runs : ℕ) (old : SessionSeatState) (step : Step) (reply : Reply)
+    (new : SessionSeatState) : Type 0 where
   pub free : SeatState
   pub freed : HasSameReceipts old.seat free
   pub called : HasReceiptOf free step reply new.seat
-  pub memory : reply ≡ Refused NoMemory → (seats : ℕ) × CallMayWant seats free step
+  pub memory : reply ≡ Refused NoMemory → (seats : ℕ) × CallMayWant seats most_runs free step
   pub counter_seat : new.counter_seat ≡ published old.counter_seat reply
   pub number : new.number ≡ old.number
 
@@ -48,13 +52,20 @@ pub record ShowsCounts (old : SessionSeatState) (number commits : ℕ) (new : Se
   pub saw : new ≡ record old { counter_seat = record old.counter_seat { saw = commits } }
   pub later : (old.counter_seat.saw ≤ commits) × (old.counter_seat.published ≤ commits)
 
--- who would hold may hear anything: that is for the turnstile; and when a transaction lapses is for the clock
-abbrev pub seat_meaning : BackendMeaning SessionSeatState
-seat_meaning = record {
+-- END of its own number ends the session itself, and that of no other does
+abbrev pub EndsOwn : SessionSeatState → ℕ → EndAnswer → Type 0
+EndsOwn p session answer = MatchBool (session == p.number) (answer ≡ EndsItself) (answer ≢ EndsItself)
+
+-- Who would hold may hear anything: that is for the turnstile. Who has a transaction active at other seats is for the
+-- connections. When a transaction lapses is for the clock.
+abbrev pub seat_meaning : ℕ → BackendMeaning SessionSeatState
+seat_meaning most_runs = record {
   active = open_at;
-  steps = MakesCall;
+  steps = MakesCall most_runs;
   shows = ShowsCounts;
   holds = λ p millis answer. Unit {0};
+  tells = λ p told. Unit {0};
+  ends = EndsOwn;
   lapses = Unit {0};
 }
 

@@ -9,7 +9,7 @@ ghost use Rattle.am_session_seat.specs.SessionSeats.{SessionSeatState, seat_mean
 /// Whatever a session was answered, also where the last answer was torn, its seat has the receipts, and is the same
 /// seat; and what was published there is the commit of one of them.
 pub fn sessions_have_receipts()
-    ensures { (auto : ℕ) (old new : SessionSeatState) (exchanges : List Exchange) (torn : Option Exchange)
+    ensures { (most_runs auto : ℕ) (old new : SessionSeatState) (exchanges : List Exchange) (torn : Option Exchange)
         (events : Trace) →
-        AnswersAll seat_meaning auto old exchanges torn events new → HasReceipts old events new }
+        AnswersAll (seat_meaning most_runs) auto old exchanges torn events new → HasReceipts old events new }
 {}

@@ -6,14 +6,14 @@ ghost use Rattle.am_session_seat.specs.Seats.{session_seat_numbers, latch_seats}
 
 use crate::session_seat::SessionSeat;
 use am_counters::{CounterSeat, Counters};
-use am_doors::{MergePacer, Mode, Turnstile};
+use am_doors::{Connections, MergePacer, Mode, Turnstile};
 use am_latch::{Latch, LatchName, Seat};
 use am_record::NoMemory;
 use std::alloc::Global;
 
 /// Gives the first seats of a latch to the sessions, one for each seat of the counters, and the others to workers. The
-/// place of each at the turnstile is its own among these, and each tells workers' pacer of the runs that it loads. In a
-/// server that stays they let their receipts go as they work.
+/// place of each at the turnstile and among the connections is its own among these, and each tells workers' pacer of
+/// the runs that it loads. In a server that stays they let their receipts go as they work.
 ///
 /// # Errors
 /// NoMemory, where memory was refused.
@@ -22,6 +22,7 @@ pub fn assign_seats<'a, L: LatchName>(
     latch: &'a Latch<L>,
     counters: &'a Counters,
     turnstile: &'a Turnstile,
+    connections: &'a Connections,
     pacer: &'a MergePacer,
     mode: Mode,
     seats: Vec<Seat<L>>,
@@ -50,6 +51,7 @@ pub fn assign_seats<'a, L: LatchName>(
                 seat,
                 counter_seat,
                 turnstile,
+                connections,
                 pacer,
                 place,
                 mode.stays(),

@@ -5,11 +5,12 @@ ghost use Rattle.am_latch.specs.Receipts.{last_commit_of};
 ghost use Rattle.am_session_seat.specs.SessionSeats.{published, seat_meaning, HasDrawn, HasSameReceipts};
 
 use am_counters::{CounterSeat, Counters};
-use am_dialogue::HoldAnswer;
-use am_doors::{HoldReply, MergePacer, Turnstile};
-use am_latch::{Latch, LatchName, Seat};
-use am_record::{Op, Reply, Step};
+use am_dialogue::{ActiveSession, ActiveSessions, EndAnswer, HoldAnswer};
+use am_doors::{Connections, HoldReply, MergePacer, Turnstile};
+use am_latch::{Latch, LatchName, Locked, Seat};
+use am_record::{NoMemory, Op, Reply, Step};
 use am_session::Backend;
+use std::alloc::Global;
 use std::marker::Model;
 use std::rt::Clock;
 use std::sync::Wait;
@@ -18,7 +19,8 @@ use std::sync::Wait;
 const MOST_HELD: usize = 1024;
 
 /// The seats of one session: one of the latch, which all sessions step, one of the counters, the place at the turnstile
-/// of all, and the number that was drawn for the session. Workers are told of the runs that it loads.
+/// and among the connections of all, and the number that was drawn for the session. Workers are told of the runs that
+/// it loads.
 pub struct SessionSeat<'a, L: LatchName> {
     latch: &'a Latch<L>,
     counters: &'a Counters,
@@ -26,6 +28,7 @@ pub struct SessionSeat<'a, L: LatchName> {
     counter_seat: CounterSeat,
     number: u64,
     turnstile: &'a Turnstile,
+    connections: &'a Connections,
     pacer: &'a MergePacer,
     place: usize,
     // Whether it lets receipts go as it works.
@@ -42,6 +45,7 @@ impl<'a, L: LatchName> Drop for SessionSeat<'a, L> {
             counter_seat,
             number: _,
             turnstile: _,
+            connections: _,
             pacer: _,
             place: _,
             holds_few: _,
@@ -74,6 +78,7 @@ impl<'a, L: LatchName> SessionSeat<'a, L> {
         seat: Seat<L>,
         counter_seat: CounterSeat,
         turnstile: &'a Turnstile,
+        connections: &'a Connections,
         pacer: &'a MergePacer,
         place: usize,
         holds_few: bool,
@@ -88,6 +93,7 @@ impl<'a, L: LatchName> SessionSeat<'a, L> {
             counter_seat,
             number: 0,
             turnstile,
+            connections,
             pacer,
             place,
             holds_few,
@@ -105,6 +111,13 @@ impl<'a, L: LatchName> SessionSeat<'a, L> {
             }
             None => false,
         }
+    }
+
+    /// The number of the session.
+    pub fn number(&self) -> u64
+        ensures { result ≡ self.now.number }
+    {
+        self.number
     }
 
     /// Lets the receipts of the latch's seat go: contracts know of them as before. Past 10^14 of them nothing happens.
@@ -129,6 +142,7 @@ impl<'a, L: LatchName> SessionSeat<'a, L> {
             counter_seat,
             number: _,
             turnstile: _,
+            connections: _,
             pacer: _,
             place: _,
             holds_few: _,
@@ -139,17 +153,21 @@ impl<'a, L: LatchName> SessionSeat<'a, L> {
 }
 
 impl<'a, L: LatchName> Backend for SessionSeat<'a, L> {
-    ghost means = { seat_meaning };
+    ghost means = { seat_meaning L.most_runs };
+
+    // The latch.
+    type Held = Locked<'a, L>;
 
     // A commit is published before anybody hears of it.
-    fn call<W: Wait>(&mut self, rt: &W, step: Step) -> Reply {
+    fn call<W: Wait>(&mut self, rt: &W, held: &mut Option<Locked<'a, L>>, step: Step) -> Reply {
         let is_load = matches!(&step, Step::Do(_, Op::Load(_)));
         hold_few(&mut self.seat, self.holds_few);
-        let reply = self.seat.call(rt, self.latch, step);
+        let reply = self.seat.call_on(rt, self.latch, held, step);
         if is_load && reply == Reply::Done {
             self.pacer.add_work();
         }
         publish(self.counters, &mut self.counter_seat, &self.seat, &reply);
+        note_transaction(self.connections, self.place, &reply);
         end_hold_behind(rt, self.turnstile, self.place, &reply);
         reply
     }
@@ -164,6 +182,31 @@ impl<'a, L: LatchName> Backend for SessionSeat<'a, L> {
             HoldReply::Holds => HoldAnswer::Granted,
             HoldReply::TooLong => HoldAnswer::OutOfBounds,
             HoldReply::KeptBy(session) => HoldAnswer::HeldBy(session),
+        }
+    }
+
+    fn who<W: Wait + Clock>(&self, rt: &W, alloc: Global) -> Result<ActiveSessions, NoMemory> {
+        let now = self.connections.now(rt);
+        let mut sessions = Vec::new(alloc);
+        for place in 0..self.connections.count() {
+            if let Some(open) = self.connections.open_at(rt, place, now) {
+                sessions.push(ActiveSession {
+                    session: open.session,
+                    tx: open.tx,
+                    seconds: open.seconds,
+                })?;
+            }
+        }
+        Ok(ActiveSessions::new(sessions))
+    }
+
+    fn end<W: Wait>(&self, rt: &W, session: u64) -> EndAnswer {
+        if session == self.number {
+            EndAnswer::EndsItself
+        } else if self.connections.end(rt, session) {
+            EndAnswer::Ends
+        } else {
+            EndAnswer::NoSession
         }
     }
 
@@ -200,6 +243,15 @@ fn hold_few<L: LatchName>(seat: &mut Seat<L>, holds_few: bool)
 {
     if holds_few && seat.positions().len() >= MOST_HELD {
         seat.let_go();
+    }
+}
+
+// Whoever asks hears which transaction the session has.
+fn note_transaction(connections: &Connections, place: usize, reply: &Reply) {
+    match reply {
+        Reply::Begun(tx) => connections.set_transaction(place, Some(*tx)),
+        Reply::Committed(_) | Reply::Aborted => connections.set_transaction(place, None),
+        _ => {}
     }
 }
 

@@ -3,7 +3,7 @@ use Rattle.std.specs.Prelude.{ℕ, List, [], ◌∷◌, codes, Option, bytes_eq,
 use Rattle.am_text.specs.declared.verb.Verb.{Verb}
 use Rattle.am_text.specs.declared.verb.Verb.TheVariants.{Begin, Get, Scan, Insert, Replace, Delete, Load, Stage, Lock}
 use Rattle.am_text.specs.declared.verb.Verb.TheVariants.{Mark, Back, Commit, Abort, Merge, Clean, Seen, Hold}
-use Rattle.am_text.specs.declared.verb.Verb.TheVariants.{Quit}
+use Rattle.am_text.specs.declared.verb.Verb.TheVariants.{Who, End, Quit}
 
 abbrev pub word_of : Verb → List ℕ
 word_of Begin = codes "BEGIN"
@@ -23,11 +23,13 @@ word_of Merge = codes "MERGE"
 word_of Clean = codes "CLEAN"
 word_of Seen = codes "SEEN"
 word_of Hold = codes "HOLD"
+word_of Who = codes "WHO"
+word_of End = codes "END"
 word_of Quit = codes "QUIT"
 
 abbrev pub verbs : List Verb
 verbs = Begin ∷ Get ∷ Scan ∷ Insert ∷ Replace ∷ Delete ∷ Load ∷ Stage ∷ Lock ∷ Mark ∷ Back ∷ Commit ∷ Abort ∷ Merge ∷
-    Clean ∷ Seen ∷ Hold ∷ Quit ∷ []
+    Clean ∷ Seen ∷ Hold ∷ Who ∷ End ∷ Quit ∷ []
 
 -- the verb of a word
 unfoldable pub verb_for : List ℕ → Option Verb

@@ -23,10 +23,12 @@ pub enum Verb {
     Clean,
     Seen,
     Hold,
+    Who,
+    End,
     Quit,
 }
 
-const VERBS: [Verb; 18] = [
+const VERBS: [Verb; 20] = [
     Verb::Begin,
     Verb::Get,
     Verb::Scan,
@@ -44,6 +46,8 @@ const VERBS: [Verb; 18] = [
     Verb::Clean,
     Verb::Seen,
     Verb::Hold,
+    Verb::Who,
+    Verb::End,
     Verb::Quit,
 ];
 
@@ -70,6 +74,8 @@ impl Verb {
             Verb::Clean => b"CLEAN",
             Verb::Seen => b"SEEN",
             Verb::Hold => b"HOLD",
+            Verb::Who => b"WHO",
+            Verb::End => b"END",
             Verb::Quit => b"QUIT",
         }
     }

@@ -39,7 +39,7 @@ pub(crate) fn read_savepoint(version: Version, fields: Fields<'_>) -> Option<()>
 {
     match version {
         Version::One => None,
-        Version::Two => read_nothing(fields),
+        Version::Two | Version::Three => read_nothing(fields),
     }
 }
 
@@ -96,7 +96,7 @@ fn key(version: Version, field: &[u8]) -> Option<Key>
 {
     match version {
         Version::One => number(field).map(Key::of_u64),
-        Version::Two => Key::new(bytes(field)?.as_slice()),
+        Version::Two | Version::Three => Key::new(bytes(field)?.as_slice()),
     }
 }
 

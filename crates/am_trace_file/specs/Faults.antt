@@ -1,21 +1,32 @@
 -- How a server ends that doesn't end well.
-use Rattle.std.specs.Prelude.{ℕ, List, codes}
+use Rattle.std.specs.Prelude.{ℕ, List, Option, Some, None, codes}
+use Rattle.std.specs.declared.io.Error.{Error}
 use Rattle.am_trace_file.specs.declared.fault.ListenFault.{ListenFault}
-use Rattle.am_trace_file.specs.declared.fault.ListenFault.TheVariants.{CannotListen, CannotAccept, CannotWriteTrace}
-use Rattle.am_trace_file.specs.declared.fault.ListenFault.TheVariants.{NoMemory, CannotHear}
+use Rattle.am_trace_file.specs.declared.fault.ListenFault.TheVariants.{CannotListenAtPort, CannotListenAtSocket}
+use Rattle.am_trace_file.specs.declared.fault.ListenFault.TheVariants.{CannotAccept, CannotWriteTrace, NoMemory}
+use Rattle.am_trace_file.specs.declared.fault.ListenFault.TheVariants.{CannotHear}
 
 -- the program's status
 abbrev pub fault_status : ListenFault → ℕ
-fault_status CannotListen = 3
+fault_status (CannotListenAtPort why) = 3
+fault_status (CannotListenAtSocket why) = 3
 fault_status CannotAccept = 3
-fault_status CannotWriteTrace = 4
+fault_status (CannotWriteTrace why) = 4
 fault_status NoMemory = 5
 fault_status CannotHear = 5
 
+-- what the system said of it
+abbrev pub fault_why : ListenFault → Option Error
+fault_why (CannotListenAtPort why) = Some why
+fault_why (CannotListenAtSocket why) = Some why
+fault_why (CannotWriteTrace why) = why
+fault_why _ = None
+
 -- what is said on standard error
 abbrev pub fault_words : ListenFault → List ℕ
-fault_words CannotListen = codes "amserve: cannot listen"
+fault_words (CannotListenAtPort why) = codes "amserve: cannot listen"
+fault_words (CannotListenAtSocket why) = codes "amserve: cannot listen"
 fault_words CannotAccept = codes "amserve: cannot accept"
-fault_words CannotWriteTrace = codes "amserve: cannot write the trace"
+fault_words (CannotWriteTrace why) = codes "amserve: cannot write the trace"
 fault_words NoMemory = codes "amserve: no memory"
 fault_words CannotHear = codes "amserve: no thread to hear STOP"

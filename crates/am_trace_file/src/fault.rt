@@ -1,17 +1,21 @@
 //! Why a server doesn't end well.
 
 ghost use Rattle.std.specs.Prelude.{◌≡◌};
-ghost use Rattle.am_trace_file.specs.Faults.{fault_status, fault_words};
+ghost use Rattle.am_trace_file.specs.Faults.{fault_status, fault_why, fault_words};
 
-/// Why a server doesn't end well.
-#[derive(Clone, Copy, Debug, PartialEq, Eq)]
+use std::io;
+
+/// Why a server doesn't end well, with what the system said of it, where that isn't told when it happens.
+#[derive(Clone, Copy, Debug)]
 pub enum ListenFault {
     /// The port can't be listened at.
-    CannotListen,
+    CannotListenAtPort(io::Error),
+    /// The socket of the file system can't be listened at.
+    CannotListenAtSocket(io::Error),
     /// A connection could not be accepted. In a bounded server no session comes after it.
     CannotAccept,
     /// The trace can't be written.
-    CannotWriteTrace,
+    CannotWriteTrace(Option<io::Error>),
     /// Memory was refused.
     NoMemory,
     /// A stop is awaited, and no thread can be started that would hear it.
@@ -24,9 +28,24 @@ impl ListenFault {
         ensures { result ≡ fault_status self }
     {
         match self {
-            ListenFault::CannotListen | ListenFault::CannotAccept => 3,
-            ListenFault::CannotWriteTrace => 4,
+            ListenFault::CannotListenAtPort(_)
+            | ListenFault::CannotListenAtSocket(_)
+            | ListenFault::CannotAccept => 3,
+            ListenFault::CannotWriteTrace(_) => 4,
             ListenFault::NoMemory | ListenFault::CannotHear => 5,
+        }
+    }
+
+    /// What the system said.
+    pub fn why(self) -> Option<io::Error>
+        ensures { result ≡ fault_why self }
+    {
+        match self {
+            ListenFault::CannotListenAtPort(why) | ListenFault::CannotListenAtSocket(why) => Some(
+                why,
+            ),
+            ListenFault::CannotWriteTrace(why) => why,
+            ListenFault::CannotAccept | ListenFault::NoMemory | ListenFault::CannotHear => None,
         }
     }
 
@@ -35,9 +54,11 @@ impl ListenFault {
         ensures { result.now ≡ fault_words self }
     {
         match self {
-            ListenFault::CannotListen => "amserve: cannot listen",
+            ListenFault::CannotListenAtPort(_) | ListenFault::CannotListenAtSocket(_) => {
+                "amserve: cannot listen"
+            }
             ListenFault::CannotAccept => "amserve: cannot accept",
-            ListenFault::CannotWriteTrace => "amserve: cannot write the trace",
+            ListenFault::CannotWriteTrace(_) => "amserve: cannot write the trace",
             ListenFault::NoMemory => "amserve: no memory",
             ListenFault::CannotHear => "amserve: no thread to hear STOP",
         }

@@ -1,7 +1,6 @@
 //! The file that gets the trace.
 
 use crate::fault::ListenFault;
-use crate::growing_file::say_why;
 use std::fs::{File, Metadata, OpenFile, OpenOptions};
 use std::io::ErrorKind;
 use std::rt::Files;
@@ -20,33 +19,18 @@ pub struct TraceFile {
 }
 
 impl TraceFile {
-    // Opens the file itself, which grows. What it had is still there.
-    fn open_growing<R: AllocGlobal + Files<File = File>>(
-        rt: &R,
-        path: &str,
-    ) -> Result<(TraceFile, File), ListenFault> {
-        let named = TraceFile::of(rt, path, None)?;
-        match grow(rt, path) {
-            Ok(file) => Ok((named, file)),
-            Err(_) => Err(ListenFault::CannotWriteTrace),
-        }
-    }
-
-    /// Opens the file itself, which grows, and says why where that can't be done. What it had is still there.
+    /// Opens the file itself, which grows. What it had is still there.
     ///
     /// # Errors
     /// CannotWriteTrace, where the system refuses it; NoMemory, where memory was refused.
-    pub fn open_or_say<R: AllocGlobal + Files<File = File> + Eprint>(
+    pub fn open_growing<R: AllocGlobal + Files<File = File>>(
         rt: &R,
         path: &str,
     ) -> Result<(TraceFile, File), ListenFault> {
         let named = TraceFile::of(rt, path, None)?;
         match grow(rt, path) {
             Ok(file) => Ok((named, file)),
-            Err(fault) => {
-                say_why(rt, path, &fault);
-                Err(ListenFault::CannotWriteTrace)
-            }
+            Err(why) => Err(ListenFault::CannotWriteTrace(Some(why))),
         }
     }
 
@@ -60,12 +44,10 @@ impl TraceFile {
         path: &str,
     ) -> Result<(TraceFile, File), ListenFault> {
         match fs::symlink_metadata(rt, path) {
-            Ok(found) if found.is_symlink() => {
-                let Ok(target) = fs::canonicalize(rt, path) else {
-                    return Err(ListenFault::CannotWriteTrace);
-                };
-                TraceFile::open_at(rt, target.as_str())
-            }
+            Ok(found) if found.is_symlink() => match fs::canonicalize(rt, path) {
+                Ok(target) => TraceFile::open_at(rt, target.as_str()),
+                Err(why) => Err(ListenFault::CannotWriteTrace(Some(why))),
+            },
             _ => TraceFile::open_at(rt, path),
         }
     }
@@ -76,7 +58,7 @@ impl TraceFile {
         path: &str,
     ) -> Result<(TraceFile, File), ListenFault> {
         match fs::metadata(rt, path) {
-            Ok(found) if found.is_dir() => Err(ListenFault::CannotWriteTrace),
+            // (of a folder the system says that it is one)
             Ok(found) if !found.is_file() => TraceFile::open_growing(rt, path),
             Ok(found) => TraceFile::create_beside(rt, path, Some(&found)),
             Err(_) => TraceFile::create_beside(rt, path, None),
@@ -94,11 +76,12 @@ impl TraceFile {
             let named = TraceFile::of(rt, path, Some(name))?;
             match create_new(rt, named.first_place(), found) {
                 Ok(file) => return Ok((named, file)),
-                Err(fault) if fault.kind() == ErrorKind::AlreadyExists => {}
-                Err(_) => return Err(ListenFault::CannotWriteTrace),
+                Err(why) if why.kind() == ErrorKind::AlreadyExists => {}
+                Err(why) => return Err(ListenFault::CannotWriteTrace(Some(why))),
             }
         }
-        Err(ListenFault::CannotWriteTrace)
+        let why = io::Error::from(ErrorKind::AlreadyExists);
+        Err(ListenFault::CannotWriteTrace(Some(why)))
     }
 
     fn of<R: AllocGlobal>(
@@ -128,9 +111,9 @@ impl TraceFile {
         let Some(name) = &self.part else {
             return Ok(());
         };
-        fs::rename(rt, name.as_str(), self.path.as_str()).map_err(|_| {
+        fs::rename(rt, name.as_str(), self.path.as_str()).map_err(|why| {
             self.forget(rt);
-            ListenFault::CannotWriteTrace
+            ListenFault::CannotWriteTrace(Some(why))
         })
     }
 

@@ -18,14 +18,15 @@ pub fn trace_text(alloc: Global, trace: &[(Step, Reply)]) -> Result<Vec<u8>, NoM
     ensures events { IfOk result (λ text. CanBeStored trace.now → AreEvents Version.Two trace.now) }
 {
     let mut page = Page::new(alloc);
-    page.put(b"TRACE 2\n")?;
+    page.put(Version::Two.header())?;
     for event in trace {
         page.put_event(&event.0, &event.1)?;
     }
     Ok(page.into_bytes())
 }
 
-/// The lines of events, in version 2: what the text of a trace has more where they stand behind it.
+/// The lines of events, in version 2, which are those of version 3 too: what the text of a trace has more where they
+/// stand behind it.
 ///
 /// # Errors
 /// NoMemory, where memory was refused.

@@ -61,7 +61,8 @@ pub fn read_line(
     ensures event { IfOk result (λ p. IsEvent version p.0 × (text.now ≡ with_lf (event_words version p.0) ++ p.1.now)) }
     ensures bad { result ≡ Err ReadFault.Bad → BeginsNoEvent version text.now }
 {
-    if let Version::Two = version {
+    am_trace_text::lines_are_alike();
+    if let Version::Two | Version::Three = version {
         if let Some(read) = front_event(text) {
             return Ok(read);
         }
@@ -74,9 +75,12 @@ pub fn read_header(text: &[u8]) -> Option<(Version, &[u8])>
     ensures some { IfSome result (λ p. text.now ≡ header p.0 ++ p.1.now) }
     ensures none { IfNone result (BeginsNoHeader text.now) }
 {
-    if let Some(rest) = text.strip_prefix(b"TRACE 1\n") {
+    if let Some(rest) = text.strip_prefix(Version::One.header()) {
         return Some((Version::One, rest));
     }
-    let rest = text.strip_prefix(b"TRACE 2\n")?;
-    Some((Version::Two, rest))
+    if let Some(rest) = text.strip_prefix(Version::Two.header()) {
+        return Some((Version::Two, rest));
+    }
+    let rest = text.strip_prefix(Version::Three.header())?;
+    Some((Version::Three, rest))
 }

@@ -27,7 +27,7 @@ use Rattle.am_trace_text.specs.Bounds.{IsByteList, IsNumber, IsKey, IsValue, IsR
 use Rattle.am_trace_text.specs.FieldReadings.{number_in, run_for, run_in, digit_in, byte_in, with_byte, bytes_for}
 use Rattle.am_trace_text.specs.FieldReadings.{value_for_digits, value_in, key_in, record_in}
 use Rattle.am_trace_text.specs.declared.version.Version.{Version}
-use Rattle.am_trace_text.specs.declared.version.Version.TheVariants.{One, Two}
+use Rattle.am_trace_text.specs.declared.version.Version.TheVariants.{One}
 use Rattle.am_trace_text.proofs.IsText.{IsText, zipped, zip_of, chained, same_some}
 
 -- ---- digits of base 16
@@ -200,7 +200,7 @@ module _ (laws : NumberLaws) where
   key_there One k h = ap (option_map number_key)
       (number_there (from_be_bytes w64 (bytes_of k)) (number_of_bytes (bytes_of k) h.0 h.1)) ∙
       ap (λ x. Some x) (key_of_number k h.0 h.1)
-  key_there Two k h =
+  key_there _ k h =
       let short : length (bytes_of k) ≤ 32 = h.1 in
       ap (option_and_then key_for) (value_there (bytes_of k) (h.0, omega (arith, short)))
       ∙ cond-true (leb (length (bytes_of k)) 32) (Some (key_of (bytes_of k))) None (grind (arith, nat_tests, short))
@@ -214,7 +214,7 @@ module _ (laws : NumberLaws) where
         n.1 ∙ ap (λ x. decimal x) (sym (number_of_key m.0 n.0)) ∙
             ap (key_word One) m.2,
       )
-  key_back Two f k e =
+  key_back _ f k e =
       let m = chained key_for (value_in f) k e in
       let w = value_back f m.0 m.1 in
       let g = gate (leb (length m.0) 32) (Some (key_of m.0)) k m.2 in
@@ -280,7 +280,7 @@ module _ (laws : NumberLaws) where
 
   pub no_in_key : (c : ℕ) (v : Version) (k : OrderedKey) → IsNoDigit c → IsKey v k → has_no c (key_word v k) ≡ true
   no_in_key c One k n h = no_in_decimal c (from_be_bytes w64 (bytes_of k)) n (number_of_bytes (bytes_of k) h.0 h.1)
-  no_in_key c Two k n h = no_in_hex c (bytes_of k) n h.0
+  no_in_key c _ k n h = no_in_hex c (bytes_of k) n h.0
 
 -- ---- records
 

@@ -6,4 +6,5 @@ pub mod StepTexts
 pub mod WordTexts
 pub mod ReplyTexts
 pub mod EventTexts
+pub mod AlikeLines
 pub mod DigitTable

@@ -30,7 +30,7 @@ use Rattle.am_trace_text.specs.FieldReadings.{one_key_in, key_and_value_in, rang
 use Rattle.am_trace_text.specs.FieldReadings.{lock_of_parts, one_number_in}
 use Rattle.am_trace_text.specs.FieldReadings.{records_of_fields, with_record, savepoint_in}
 use Rattle.am_trace_text.specs.declared.version.Version.{Version}
-use Rattle.am_trace_text.specs.declared.version.Version.TheVariants.{One, Two}
+use Rattle.am_trace_text.specs.declared.version.Version.TheVariants.{One}
 use Rattle.am_trace_text.proofs.IsText.{IsText, zipped, zip_of, chained, same_some, one_field, two_fields}
 use Rattle.am_trace_text.proofs.FieldTexts.{NumberLaws, number_text, key_text, value_text, record_text}
 use Rattle.am_trace_text.proofs.FieldTexts.{IsNoDigit, AllHaveNo, is_letter, no_in_letters, no_in_hex, no_in_decimal}
@@ -165,11 +165,11 @@ module _ (laws : WordLaws) where
   pub savepoint_back : (v : Version) (fs : List (List ℕ)) (u : Unit {0}) → savepoint_in v fs ≡ Some u →
       HasSavepoints v × (fs ≡ [])
   savepoint_back One fs u e = cc
-  savepoint_back Two fs u e = (tt, nothing_back fs u e)
+  savepoint_back _ fs u e = (tt, nothing_back fs u e)
 
   pub savepoint_there : (v : Version) → HasSavepoints v → savepoint_in v [] ≡ Some tt
   savepoint_there One h = absurd h
-  savepoint_there Two h = refl
+  savepoint_there _ h = refl
 
   -- ---- operations
 

@@ -6,7 +6,7 @@ use Rattle.am_record.specs.OrderedKey.{OrderedKey, bytes_of}
 use Rattle.am_record.specs.Interval.{Interval, key_le}
 use Rattle.am_record.specs.Records.{Records}
 use Rattle.am_trace_text.specs.declared.version.Version.{Version}
-use Rattle.am_trace_text.specs.declared.version.Version.TheVariants.{One, Two}
+use Rattle.am_trace_text.specs.declared.version.Version.TheVariants.{One}
 
 abbrev pub IsByteList : List ℕ → Type 0
 IsByteList bytes = AllByRecursion (λ b. b < 256) bytes
@@ -17,7 +17,7 @@ IsNumber n = n < 2 ^ 64
 -- a key of at most 32 bytes; in version 1 one of eight
 abbrev pub IsKey : Version → OrderedKey → Type 0
 IsKey One key = IsByteList (bytes_of key) × (length (bytes_of key) ≡ 8)
-IsKey Two key = IsByteList (bytes_of key) × (length (bytes_of key) ≤ max_key_bytes)
+IsKey _ key = IsByteList (bytes_of key) × (length (bytes_of key) ≤ max_key_bytes)
 
 abbrev pub IsValue : List ℕ → Type 0
 IsValue value = IsByteList value × (length value ≤ max_value_bytes)

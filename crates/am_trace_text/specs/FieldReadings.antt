@@ -21,7 +21,7 @@ use Rattle.am_text.specs.ReplyWords.{word_text, refusal_code}
 use Rattle.am_text.specs.declared.reply_word.ReplyWord.{ReplyWord}
 use Rattle.am_text.specs.declared.reply_word.ReplyWord.TheVariants as word
 use Rattle.am_trace_text.specs.declared.version.Version.{Version}
-use Rattle.am_trace_text.specs.declared.version.Version.TheVariants.{One, Two}
+use Rattle.am_trace_text.specs.declared.version.Version.TheVariants.{One}
 use Rattle.am_trace_text.specs.declared.read.ReadFault.{ReadFault}
 use Rattle.am_trace_text.specs.declared.read.ReadFault.TheVariants.{Bad, NoMemory}
 
@@ -63,7 +63,7 @@ value_in (letter ∷ digits) = if letter == 104 then value_for_digits digits els
 
 abbrev pub key_in : Version → List ℕ → Option OrderedKey
 key_in One field = option_map number_key (number_in field)
-key_in Two field = option_and_then key_for (value_in field)
+key_in _ field = option_and_then key_for (value_in field)
 
 abbrev pub record_in : Version → List ℕ → Option (OrderedKey × List ℕ)
 record_in v field = option_zip (key_in v (before_first is_equals field)) (value_in (after_first is_equals field))
@@ -79,7 +79,7 @@ nothing_in fs = None
 
 abbrev pub savepoint_in : Version → List (List ℕ) → Option (Unit {0})
 savepoint_in One fs = None
-savepoint_in Two fs = nothing_in fs
+savepoint_in _ fs = nothing_in fs
 
 -- the field, where there is just one; the two, and the three
 abbrev pub one_of : List (List ℕ) → Option (List ℕ)

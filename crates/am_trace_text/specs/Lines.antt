@@ -12,7 +12,7 @@ use Rattle.am_trace_text.specs.Steps.{step_fields, IsStep, step_in}
 use Rattle.am_trace_text.specs.Replies.{reply_fields, IsReply}
 use Rattle.am_trace_text.specs.FieldReadings.{reply_in}
 use Rattle.am_trace_text.specs.declared.version.Version.{Version}
-use Rattle.am_trace_text.specs.declared.version.Version.TheVariants.{One, Two}
+use Rattle.am_trace_text.specs.declared.version.Version.TheVariants.{One, Two, Three}
 
 -- what the version can write of events
 abbrev pub IsEvent : Version → Event → Type 0
@@ -46,6 +46,7 @@ with_lf words = words ++ 10 ∷ []
 abbrev pub header : Version → List ℕ
 header One = with_lf (codes "TRACE 1")
 header Two = with_lf (codes "TRACE 2")
+header Three = with_lf (codes "TRACE 3")
 
 abbrev pub event_lines : Version → List Event → List ℕ
 event_lines v trace = flat_map (λ e. with_lf (event_words v e)) trace

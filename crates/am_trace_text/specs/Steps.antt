@@ -16,7 +16,7 @@ use Rattle.am_trace_text.specs.Bounds.{IsNumber, IsKey, IsRecord, AreRecords, Is
 use Rattle.am_trace_text.specs.FieldReadings.{number_in, one_number_in, nothing_in, one_key_in, key_and_value_in}
 use Rattle.am_trace_text.specs.FieldReadings.{range_and_number_in, lock_fields_in, records_of_fields, savepoint_in}
 use Rattle.am_trace_text.specs.declared.version.Version.{Version}
-use Rattle.am_trace_text.specs.declared.version.Version.TheVariants.{One, Two}
+use Rattle.am_trace_text.specs.declared.version.Version.TheVariants.{One}
 
 abbrev pub verb_of : Op → Verb
 verb_of (Get k) = verb.Get
@@ -56,7 +56,7 @@ step_fields v (Clean r limit) = word_of verb.Clean ∷ key_word v r.lo ∷ key_w
 -- version 1 knows no savepoints
 abbrev pub HasSavepoints : Version → Type 0
 HasSavepoints One = ⊥
-HasSavepoints Two = Unit {0}
+HasSavepoints _ = Unit {0}
 
 -- what the version can write of operations
 abbrev pub IsOp : Version → Op → Type 0

@@ -4,7 +4,7 @@ use Rattle.std.specs.Int.{w64, from_be_bytes}
 use Rattle.am_record.specs.OrderedKey.{OrderedKey, bytes_of}
 use Rattle.am_text.specs.Records.{record_field}
 use Rattle.am_trace_text.specs.declared.version.Version.{Version}
-use Rattle.am_trace_text.specs.declared.version.Version.TheVariants.{One, Two}
+use Rattle.am_trace_text.specs.declared.version.Version.TheVariants.{One}
 
 -- a digit of base 16: 0 to 9, a to f
 abbrev pub hex_digit : ℕ → ℕ
@@ -22,7 +22,7 @@ hex bytes = 104 ∷ hex_digits bytes
 -- a key: in version 1 the number whose eight bytes it is
 abbrev pub key_word : Version → OrderedKey → List ℕ
 key_word One key = decimal (from_be_bytes w64 (bytes_of key))
-key_word Two key = hex (bytes_of key)
+key_word _ key = hex (bytes_of key)
 
 -- a record: k=v
 abbrev pub record_word : Version → OrderedKey × List ℕ → List ℕ

@@ -1,22 +1,23 @@
 //! A trace that is written while its server runs.
 
-ghost use Rattle.std.specs.Prelude.{◌≡◌, ◌+◌, ◌^◌, ◌<◌, false, MatchBool, if◌then◌else◌};
+ghost use Rattle.std.specs.Prelude.{◌≡◌, ◌≢◌, ◌+◌, ◌^◌, ◌<◌, false, MatchBool, if◌then◌else◌};
 ghost use Rattle.am_sink.specs.SinkWrites.{Gave, GaveBeginning};
 ghost use Rattle.am_trace_text.specs.Lines.{header};
-ghost use Rattle.am_trace_text.specs.declared.version.Version.TheVariants.{Two};
 ghost use Rattle.am_trace_writer.specs.Writers.{TookLines};
 
 use crate::pieces::PieceTaker;
 use am_record::{Reply, Step};
 use am_sink::{Sink, give_all};
 use am_trace_print::event_lines;
+use am_trace_text::Version;
 use std::alloc::Global;
 
 /// How many events are written at once: some 1 MB, where they have no long lists of records.
 const EVENTS_AT_ONCE: usize = 16_384;
 
-/// Writes a trace to a sink: at first the line that names its version, and then the lines of its events as they come.
-/// Where the sink fails, or memory is refused, the trace is cut there: nothing more is written.
+/// Writes a trace to a sink: at first the line that names its version, 2 or 3, and then the lines of its events as they
+/// come, which both versions have alike. Where the sink fails, or memory is refused, the trace is cut there: nothing
+/// more is written.
 #[derive(Drop)]
 pub struct TraceWriter<K: Sink + Drop> {
     sink: K,
@@ -27,14 +28,15 @@ pub struct TraceWriter<K: Sink + Drop> {
 
 impl<K: Sink + Drop> TraceWriter<K> {
     /// Writes the first line. Where the sink fails, the trace is cut there.
-    pub fn begin(alloc: Global, sink: K) -> TraceWriter<K>
-        requires { K.failures sink < 2 ^ 63 }
-        ensures begun { MatchBool result.is_cut (GaveBeginning K.holds sink (header Two) result.sink)
-            (Gave K.holds sink (header Two) result.sink) }
+    pub fn begin(alloc: Global, sink: K, version: Version) -> TraceWriter<K>
+        requires countable { K.failures sink < 2 ^ 63 }
+        requires written { version ≢ Version.One }
+        ensures begun { MatchBool result.is_cut (GaveBeginning K.holds sink (header version) result.sink)
+            (Gave K.holds sink (header version) result.sink) }
         ensures cut { K.failures result.sink ≡ (if result.is_cut then K.failures sink + 1 else K.failures sink) }
     {
         let mut sink = sink;
-        let is_cut = give_all(&mut sink, b"TRACE 2\n").is_err();
+        let is_cut = give_all(&mut sink, version.header()).is_err();
         TraceWriter {
             sink,
             is_cut,

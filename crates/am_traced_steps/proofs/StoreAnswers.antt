@@ -277,7 +277,6 @@ pub goes : (h : Trace) (p p' : StoreState) (st : Step) (r : Reply) → HasTrace 
     TakesStep h st r p'
 goes h p p' st r has fit may step same on = record {
   here = record {
-    most = on.most ∙ has.most;
     stands = on.on h has.stands.at;
     active = ap numbers_active step ∙ numbers_after p st r ∙ ap (λ ts. numbers_with ts (change st r)) has.active ∙
         sym (active_from-snoc [] h (st, r));
@@ -286,9 +285,8 @@ goes h p p' st r has fit may step same on = record {
   answers = subst (λ (ts : List ℕ). MayFollow ts st r) has.active (answers_of p st r fit may);
 }
 
-pub opens : (p : StoreState) → p.most_runs ≡ 65535 → p.active ≡ [] → IsSoundAt [] p → HasTrace [] p
-opens p most none stands = record {
-  most = most;
+pub opens : (p : StoreState) → p.active ≡ [] → IsSoundAt [] p → HasTrace [] p
+opens p none stands = record {
   stands = stands;
   active = ap (λ l. map (λ (x : Active). x.number) l) none;
 }

@@ -1,7 +1,7 @@
 -- What a step with its reply does to the transactions, and which are active after a trace.
 use Rattle.std.specs.Prelude.{◌≡◌, ℕ, ◌≤◌, nat_le, List, [], ◌∷◌, ◌++◌, length, map, Bool, true, false}
 use Rattle.std.specs.Prelude.{if◌then◌else◌, Option, Some, None}
-use Rattle.am_record.specs.Limits.{max_limit, max_rows, max_runs}
+use Rattle.am_record.specs.Limits.{max_limit, max_rows}
 use Rattle.am_record.specs.ByNumber.{has_number, without_number}
 use Rattle.am_record.specs.declared.step.Op.TheVariants.{Scan}
 use Rattle.am_record.specs.declared.step.Step.{Step}
@@ -86,9 +86,8 @@ open_after o Nothing = o
 abbrev pub numbers_active : StoreState → List ℕ
 numbers_active p = map (λ (x : Active). x.number) p.active
 
--- the trace is sound, the store is where it leaves it, and has its active transactions; it makes 65,535 runs at most
+-- the trace is sound, the store is where it leaves it, and has its active transactions
 pub record HasTrace (trace : Trace) (p : StoreState) : Type 0 where
-  pub most : p.most_runs ≡ max_runs
   pub stands : IsSoundAt trace p
   pub active : numbers_active p ≡ active_in_trace trace
 

@@ -17,6 +17,7 @@ pub fn take_step<I: PartIndex + Drop>(store: &mut Store<I>, step: Step) -> Reply
     ensures bounded { (trace : Trace) → HasTrace trace store.old → IsBoundedReply step result }
     ensures own { (trace : Trace) → HasTrace trace store.old → result ≢ Refused SeatFull }
     ensures memory { result ≡ Refused NoMemory → may_want_memory store.old step ≡ true }
+    ensures most { store.new.most_runs ≡ store.old.most_runs }
 {
     am_sound::steps_lift();
     store.step(step)

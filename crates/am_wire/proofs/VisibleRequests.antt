@@ -73,6 +73,7 @@ visible_with verb.Stage a r h e = told (request_with verb.Stage) (values_for som
 visible_with verb.Lock a r h e = told (request_with verb.Lock) (values_for mode_and_range a) r (λ x f. tt) e
 visible_with verb.Merge a r h e = told (request_with verb.Merge) (values_for one_number a) r (λ x f. tt) e
 visible_with verb.Hold a r h e = told (request_with verb.Hold) (values_for one_number a) r (λ x f. tt) e
+visible_with verb.End a r h e = told (request_with verb.End) (values_for one_number a) r (λ x f. tt) e
 visible_with verb.Clean a r h e = told (request_with verb.Clean) (values_for range_and_number a) r (λ x f. tt) e
 visible_with v a r h e = told (request_with v) (values_for bare a) r (λ x f. tt) e
 

@@ -11,7 +11,7 @@ use Rattle.am_text.specs.declared.verb.Verb.{Verb}
 use Rattle.am_text.specs.declared.verb.Verb.TheVariants as verb
 use Rattle.am_wire.specs.declared.request.Request.{Request}
 use Rattle.am_wire.specs.declared.request.Request.TheVariants.{Begin, Do, Stage, Commit, Abort, Merge, Clean, Seen}
-use Rattle.am_wire.specs.declared.request.Request.TheVariants.{Hold, Quit}
+use Rattle.am_wire.specs.declared.request.Request.TheVariants.{Hold, Who, End, Quit}
 use Rattle.am_text.specs.declared.fault.LineFault.{LineFault}
 use Rattle.am_text.specs.declared.fault.LineFault.TheVariants.{Syntax, Range, NoMemory}
 
@@ -34,6 +34,8 @@ verb_shape verb.Merge = one_number
 verb_shape verb.Clean = range_and_number
 verb_shape verb.Seen = bare
 verb_shape verb.Hold = one_number
+verb_shape verb.Who = bare
+verb_shape verb.End = one_number
 verb_shape verb.Quit = bare
 
 -- what a line may say, with numbers, keys and values of any size
@@ -68,6 +70,8 @@ request_with verb.Merge n = Merge n
 request_with verb.Clean a = Clean a.0 a.1
 request_with verb.Seen a = Seen
 request_with verb.Hold n = Hold n
+request_with verb.Who a = Who
+request_with verb.End n = End n
 request_with verb.Quit a = Quit
 
 -- what the form asks for, where all in it is in bounds

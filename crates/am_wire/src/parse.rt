@@ -67,6 +67,8 @@ fn parse_with(alloc: Global, verb: Verb, fields: Fields<'_>) -> Result<Request, 
         }
         Verb::Seen => parse_bare(fields, Request::Seen),
         Verb::Hold => Ok(Request::Hold(parse_one_number(fields)?)),
+        Verb::Who => parse_bare(fields, Request::Who),
+        Verb::End => Ok(Request::End(parse_one_number(fields)?)),
         Verb::Quit => parse_bare(fields, Request::Quit),
     }
 }

@@ -20,6 +20,10 @@ pub enum Request {
     Seen,
     /// Everybody else waits who has nothing begun, for at most so many milliseconds.
     Hold(u64),
+    /// Which sessions have a transaction active.
+    Who,
+    /// The session of this number ends.
+    End(u64),
     /// The session ends.
     Quit,
 }

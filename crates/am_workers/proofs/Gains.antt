@@ -20,26 +20,26 @@ use Rattle.am_latch.specs.Receipts.{SeatState, moved_in, GetsReceipt, HasReceipt
 use Rattle.am_latch.specs.Ties.{open_of}
 use Rattle.am_latch.proofs.SeatTransactions.{open_from-snoc}
 use Rattle.am_turns.specs.declared.upkeep.Upkeep.{Upkeep}
-use Rattle.am_turns.specs.declared.upkeep.Upkeep.TheVariants.{MergeAndClean}
+use Rattle.am_turns.specs.declared.upkeep.Upkeep.TheVariants.{MergeOnly, MergeAndClean}
 use Rattle.am_workers.specs.declared.clean_turn.Place.{Place}
 use Rattle.am_workers.specs.Turns.{IsTurn, AreOfTurns, HasTakenTurns, all_moved}
 use Rattle.am_serial.specs.Trace.{Trace}
 use Rattle.am_record.specs.declared.entry.Entry.{Entry}
 use Rattle.am_workers.specs.CleanTurns.{HasCleaned, IsSeen}
-use Rattle.am_workers.specs.WorkerTurns.{HasLetGo, may_clean, OnlyMerged, ThenCleaned, TakesTurn, TakesTurns}
+use Rattle.am_workers.specs.WorkerTurns.{HasLetGo, after_merge, GoesOn, TakesTurn, TakesTurns}
 
 -- the seat has one receipt more, of a Clean of at most 64, or none
 abbrev pub MayHaveCleaned : SeatState → SeatState → Type 0
 MayHaveCleaned s t = (t ≡ s) ⊎ ((range : Interval) × (reply : Reply) × GetsReceipt s (Clean range 64) reply t)
 
 -- the seat has these receipts more, and what is open in it stays open
-record GoesOn (s t : SeatState) (more : List Receipt) : Type 0 where
+record LeavesOpen (s t : SeatState) (more : List Receipt) : Type 0 where
   pub number : t.number ≡ s.number
   pub longer : t.receipts ≡ s.receipts ++ more
   pub open_tx : open_of t.receipts ≡ open_of s.receipts
 
 -- a seat that lets receipts go keeps them in what contracts see
-let_go : (s t : SeatState) → t.number ≡ s.number → t.receipts ≡ s.receipts → GoesOn s t []
+let_go : (s t : SeatState) → t.number ≡ s.number → t.receipts ≡ s.receipts → LeavesOpen s t []
 let_go s t number receipts = record {
   number = number;
   longer = receipts ∙ sym (append-nil s.receipts);
@@ -47,7 +47,7 @@ let_go s t number receipts = record {
 }
 
 went_on : (s t : SeatState) (step : Step) (r : Reply) → change step r ≡ Nothing → (c : GetsReceipt s step r t) →
-    GoesOn s t (receipt s.number (length s.receipts) step r c.0 ∷ [])
+    LeavesOpen s t (receipt s.number (length s.receipts) step r c.0 ∷ [])
 went_on s t step r no_change c =
     let x : Receipt = receipt s.number (length s.receipts) step r c.0 in
     let receipts : t.receipts ≡ s.receipts ++ x ∷ [] = ap (λ (v : SeatState). v.receipts) c.1 in record {
@@ -57,14 +57,14 @@ went_on s t step r no_change c =
           ap (λ (ch : Change). open_after (open_of s.receipts) ch) no_change;
     }
 
-then_on : (s t u : SeatState) (xs ys : List Receipt) → GoesOn s t xs → GoesOn t u ys → GoesOn s u (xs ++ ys)
+then_on : (s t u : SeatState) (xs ys : List Receipt) → LeavesOpen s t xs → LeavesOpen t u ys → LeavesOpen s u (xs ++ ys)
 then_on s t u xs ys f h = record {
   number = h.number ∙ f.number;
   longer = h.longer ∙ ap (λ (l : List Receipt). l ++ ys) f.longer ∙ append_assoc s.receipts xs ys;
   open_tx = h.open_tx ∙ f.open_tx;
 }
 
-by_turns : (upkeep : Upkeep) (limit n : ℕ) (s t : SeatState) (more : List Receipt) → GoesOn s t more →
+by_turns : (upkeep : Upkeep) (limit n : ℕ) (s t : SeatState) (more : List Receipt) → LeavesOpen s t more →
     AreOfTurns upkeep limit n more → HasTakenTurns upkeep limit n s t
 by_turns upkeep limit n s t more f h = record {
   number = f.number;
@@ -119,7 +119,7 @@ turned_on upkeep limit m n s t u f h =
     record { number = h.number; longer = h.longer; open_tx = h.open_tx })
     (both_turns upkeep limit m n f.more h.more f.turns h.turns)
 
-either_way : (upkeep : Upkeep) (limit : ℕ) (s t u : SeatState) (r : Reply) (b : Bool) → GoesOn s t [] →
+either_way : (upkeep : Upkeep) (limit : ℕ) (s t u : SeatState) (r : Reply) (b : Bool) → LeavesOpen s t [] →
     MatchBool b (GetsReceipt t (Merge limit) r u) (u ≡ t) → HasTakenTurns upkeep limit 1 s u
 either_way upkeep limit s t u r true f c =
     let x : Receipt = receipt t.number (length t.receipts) (Merge limit) r c.0 in
@@ -135,7 +135,7 @@ pub merged : (upkeep : Upkeep) (limit : ℕ) (s t u : SeatState) (r : Reply) →
 merged upkeep limit s t u r number receipts c =
     either_way upkeep limit s t u r (is_stored r) (let_go s t number receipts) c
 
-then_cleaned : (limit : ℕ) (s t u v : SeatState) → GoesOn s t [] → GetsReceipt t (Merge limit) Idle u →
+then_cleaned : (limit : ℕ) (s t u v : SeatState) → LeavesOpen s t [] → GetsReceipt t (Merge limit) Idle u →
     MayHaveCleaned u v → HasTakenTurns MergeAndClean limit 1 s v
 then_cleaned limit s t u v f c (inl e) =
     subst (λ (w : SeatState). HasTakenTurns MergeAndClean limit 1 s w) (sym e)
@@ -172,12 +172,14 @@ may_have_cleaned seats from to s t works None h = inl h.same
 goes_on : (upkeep : Upkeep) (limit seats : ℕ) (from to : Place) (s t u v : SeatState) (works : Bool)
     (merge reply : Reply) →
     HasLetGo s t → HasReceiptOf t (Merge limit) merge u →
-    MatchBool (may_clean upkeep merge) (ThenCleaned seats from u merge works reply to v)
-    (OnlyMerged from u merge works reply to v) →
+    GoesOn (after_merge upkeep merge) seats from u merge works reply to v →
     HasTakenTurns upkeep limit 1 s v
 goes_on MergeAndClean limit seats from to s t u v works Idle reply f c h =
     merged_and_cleaned MergeAndClean limit s t u v Idle refl refl f.number f.receipts c
     (may_have_cleaned seats from to u v works h.cleaned h.cleans)
+goes_on MergeOnly limit seats from to s t u v works Idle reply f c h =
+    subst (λ (w : SeatState). HasTakenTurns MergeOnly limit 1 s w) (sym h.same)
+    (merged MergeOnly limit s t u Idle f.number f.receipts c)
 goes_on upkeep limit seats from to s t u v works merge reply f c h =
     subst (λ (w : SeatState). HasTakenTurns upkeep limit 1 s w) (sym h.same)
     (merged upkeep limit s t u merge f.number f.receipts c)

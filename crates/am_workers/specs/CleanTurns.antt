@@ -35,10 +35,13 @@ place_behind e (Cleaned n) =
     else record { part = e.part; key = e.key }
 place_behind e _ = record { part = e.part; key = e.key }
 
--- Whether something may be to do before a run is loaded: a run has entries, which may be asked for, or there are
--- ghosts, and many.
+-- whether a run has entries, which may be asked for and then merged
+abbrev pub has_runs : List Entry → Bool
+has_runs es = nat_lt (left_in 0 es) (length es)
+
+-- whether something may be to do before a run is loaded: a run has entries, or there are ghosts, and many
 abbrev pub has_work : List Entry → Bool
-has_work es = nat_lt (left_in 0 es) (length es) || (nat_lt 0 (length es - live_in es) && has_many_ghosts es)
+has_work es = has_runs es || (nat_lt 0 (length es - live_in es) && has_many_ghosts es)
 
 -- it is the ghost to clean, from a place on, in the store to which the trace leads, and whether there is work in it
 pub record IsSeen (from : Place) (trace : Trace) (ghost : Option Entry) (works : Bool) : Type 0 where
@@ -46,6 +49,17 @@ pub record IsSeen (from : Place) (trace : Trace) (ghost : Option Entry) (works :
   pub stands : IsSoundAt trace store
   pub next : ghost ≡ ghost_to_clean store.entries from.part from.key
   pub work : works ≡ has_work store.entries
+
+-- whether runs have entries in the store to which the trace leads
+pub record AreRunsSeen (trace : Trace) (works : Bool) : Type 0 where
+  pub store : StoreState
+  pub stands : IsSoundAt trace store
+  pub work : works ≡ has_runs store.entries
+
+-- a look for one of the seats of a latch, of which there are so many, saw whether runs have entries
+abbrev pub SawRuns : ℕ → SeatState → Bool → Type 0
+SawRuns seats s works = (engine : EngineState) × IsEngineOf seats engine × HasReceiptsIn engine s ×
+    AreRunsSeen engine.trace works
 
 -- a look for one of the seats of a latch, of which there are so many, found this ghost to clean from a place on
 pub record Found (seats : ℕ) (from : Place) (s : SeatState) (works : Bool) (ghost : Option Entry) : Type 0 where

@@ -2,7 +2,8 @@
 
 ghost use Rattle.std.specs.Prelude.{◌≡◌, ◌*◌, ◌&&◌, ◌||◌, nat_le, nat_lt};
 ghost use Rattle.am_record.specs.OrderedKey.{key_least};
-ghost use Rattle.am_workers.specs.CleanTurns.{ghost_to_clean, has_work, place_behind, IsSeen, HasCleaned};
+ghost use Rattle.am_workers.specs.CleanTurns.{ghost_to_clean, has_runs, has_work, place_behind, IsSeen, HasCleaned};
+ghost use Rattle.am_workers.specs.CleanTurns.{AreRunsSeen, SawRuns};
 
 use am_btree::BTree;
 use am_core::Store;
@@ -118,6 +119,38 @@ pub(crate) fn clean<L: LatchName, R: Wait>(
     }
 }
 
+/// Whether a run has entries, which may be asked for and then merged.
+pub(crate) fn look_for_runs<L: LatchName, R: Wait>(
+    rt: &R,
+    latch: &Latch<L>,
+    seat: &mut Seat<L>,
+) -> bool
+    ensures saw { SawRuns L.seats seat.old result }
+    ensures same { seat.new ≡ seat.old }
+{
+    latch.look(
+        rt,
+        seat,
+        |engine: &Engine| -> bool
+            ensures { AreRunsSeen engine.now.trace result }
+        { see_runs(engine.store()) },
+    )
+}
+
+// Whether a run of the store has entries.
+fn see_runs(store: &Store<BTree>) -> bool
+    ensures { result ≡ has_runs store.now.entries }
+{
+    have_runs(store.figures())
+}
+
+// Whether entries stand outside the final partition.
+fn have_runs(figures: Figures) -> bool
+    ensures { result ≡ nat_lt figures.in_final figures.entries }
+{
+    figures.in_final < figures.entries
+}
+
 // What a worker sees that cleans from the place on.
 fn see(store: &Store<BTree>, from: Place) -> Seen
     ensures next { result.next_ghost ≡ ghost_to_clean store.now.entries from.part from.key }
@@ -134,7 +167,7 @@ fn has_work(figures: Figures) -> bool
     ensures { result ≡ (nat_lt figures.in_final figures.entries ||
         (nat_lt 0 figures.ghosts && nat_le figures.entries (1024 * figures.ghosts))) }
 {
-    figures.in_final < figures.entries || (figures.ghosts > 0 && are_many(figures))
+    have_runs(figures) || (figures.ghosts > 0 && are_many(figures))
 }
 
 // The first ghost from the place on, or else the first of all; none where ghosts are few.

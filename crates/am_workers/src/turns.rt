@@ -2,10 +2,10 @@
 
 ghost use Rattle.std.specs.Prelude.{◌≡◌, ℕ, ◌≤◌};
 ghost use Rattle.am_workers.specs.Turns.{HasTakenTurns};
-ghost use Rattle.am_workers.specs.WorkerTurns.{may_clean, TakesTurn, TakesTurns};
+ghost use Rattle.am_workers.specs.WorkerTurns.{after_merge, TakesTurn, TakesTurns};
 ghost use Rattle.am_workers.specs.declared.clean_turn.Place.{Place};
 
-use crate::clean_turn::{Place, clean};
+use crate::clean_turn::{Place, clean, look_for_runs};
 use am_latch::{Latch, LatchName, Seat};
 use am_record::{Refusal, Reply, Step};
 use am_turns::{Pacer, Upkeep};
@@ -63,22 +63,43 @@ fn take_turn<L: LatchName, R: Wait>(
     // The receipts of the turn before.
     seat.let_go();
     let merged = seat.call(rt, latch, Step::Merge(limit));
-    if !may_clean(upkeep, &merged) {
-        return Turn {
+    match after_merge(upkeep, &merged) {
+        AfterMerge::Nothing => Turn {
             reply: merged,
             has_work: true,
-        };
-    }
-    let cleaned = clean(rt, latch, seat, place);
-    Turn {
-        reply: cleaned.reply.unwrap_or(merged),
-        has_work: cleaned.has_work,
+        },
+        AfterMerge::Look => Turn {
+            reply: merged,
+            has_work: look_for_runs(rt, latch, seat),
+        },
+        AfterMerge::Clean => {
+            let cleaned = clean(rt, latch, seat, place);
+            Turn {
+                reply: cleaned.reply.unwrap_or(merged),
+                has_work: cleaned.has_work,
+            }
+        }
     }
 }
 
-// Whether a worker cleans behind this answer to its merge: where that is asked for, and nothing is left to merge.
-fn may_clean(upkeep: Upkeep, merged: &Reply) -> bool
-    ensures { result ≡ may_clean upkeep merged.now }
+/// What a worker does in a turn behind its merge.
+#[derive(Clone, Copy)]
+enum AfterMerge {
+    /// Nothing: more may be to merge.
+    Nothing,
+    /// It looks whether anything may be to merge before a run is loaded.
+    Look,
+    /// It cleans.
+    Clean,
+}
+
+// What a worker does behind this answer to its merge. Where it isn't Idle, more may be to merge.
+fn after_merge(upkeep: Upkeep, merged: &Reply) -> AfterMerge
+    ensures { result ≡ after_merge upkeep merged.now }
 {
-    matches!((upkeep, merged), (Upkeep::MergeAndClean, Reply::Idle))
+    match (upkeep, merged) {
+        (Upkeep::MergeAndClean, Reply::Idle) => AfterMerge::Clean,
+        (Upkeep::MergeOnly, Reply::Idle) => AfterMerge::Look,
+        _ => AfterMerge::Nothing,
+    }
 }

@@ -149,7 +149,7 @@ fn by_two_workers<L: LatchName + Send + Sync, R: Threads + Wait + Abort + Sync>(
 
 #[test]
 fn two_workers_leave_no_ghost(rt: HostRuntime) -> Result<(), Fail> {
-    by_two_workers::<Brand, HostRuntime>(&rt, rt.alloc(), Blank::new(rt.alloc(), 4)?)
+    by_two_workers::<Brand, HostRuntime>(&rt, rt.alloc(), Blank::new(rt.alloc(), 4, MAX_RUNS)?)
 }
 
 // A ghost that an active transaction has locked stays, and holds back none of lesser keys in a later partition.
@@ -180,7 +180,11 @@ fn beside_a_locked_ghost<L: LatchName + Send + Sync, R: Threads + Wait + Abort +
 
 #[test]
 fn a_locked_ghost_waits_alone(rt: HostRuntime) -> Result<(), Fail> {
-    beside_a_locked_ghost::<Brand, HostRuntime>(&rt, rt.alloc(), Blank::new(rt.alloc(), 3)?)
+    beside_a_locked_ghost::<Brand, HostRuntime>(
+        &rt,
+        rt.alloc(),
+        Blank::new(rt.alloc(), 3, MAX_RUNS)?,
+    )
 }
 
 // A worker that merges alone leaves ghosts as they are.
@@ -200,7 +204,11 @@ fn beside_a_worker_that_merges<L: LatchName + Send + Sync, R: Threads + Wait + A
 
 #[test]
 fn a_worker_that_merges_leaves_ghosts(rt: HostRuntime) -> Result<(), Fail> {
-    beside_a_worker_that_merges::<Brand, HostRuntime>(&rt, rt.alloc(), Blank::new(rt.alloc(), 2)?)
+    beside_a_worker_that_merges::<Brand, HostRuntime>(
+        &rt,
+        rt.alloc(),
+        Blank::new(rt.alloc(), 2, MAX_RUNS)?,
+    )
 }
 
 // Of 1,100 entries one ghost is too few, and two are enough. They are cleaned from the first of them on, and no key
@@ -235,5 +243,5 @@ fn among_many_records<L: LatchName + Send + Sync, R: Threads + Wait + Abort + Sy
 
 #[test]
 fn few_ghosts_are_left(rt: HostRuntime) -> Result<(), Fail> {
-    among_many_records::<Brand, HostRuntime>(&rt, rt.alloc(), Blank::new(rt.alloc(), 2)?)
+    among_many_records::<Brand, HostRuntime>(&rt, rt.alloc(), Blank::new(rt.alloc(), 2, MAX_RUNS)?)
 }

@@ -1,13 +1,13 @@
 //! Command lines of the programs.
 
 use am_command::{Audited, audited};
-use am_serve_command::{Listening, Options, options};
+use am_serve_command::{Listening, Options, Place, options};
 
 /// Words after the program's name, and the options that they ask for, or the status with which they are refused.
 type Asked<'a> = (&'a [&'a str], Result<Options<'a>, u8>);
 
 const DEFAULTS: Listening<'static> = Listening {
-    port: 0,
+    place: Place::Port(0),
     sessions: 1,
     workers: 1,
     hold: 60_000,
@@ -17,12 +17,11 @@ const DEFAULTS: Listening<'static> = Listening {
     grace: None,
     idle: None,
     lapse: 0,
-    socket: None,
     is_logged: false,
 };
 
 const MOST: Listening<'static> = Listening {
-    port: 65535,
+    place: Place::Port(65535),
     sessions: 256,
     workers: 16,
     hold: 0,
@@ -32,17 +31,29 @@ const MOST: Listening<'static> = Listening {
     grace: None,
     idle: None,
     lapse: 0,
-    socket: None,
     is_logged: false,
 };
 
+const AT_BOTH: Listening<'static> = Listening {
+    place: Place::Both {
+        port: 7070,
+        socket: "s",
+    },
+    ..DEFAULTS
+};
+
+const AT_A_SOCKET: Listening<'static> = Listening {
+    place: Place::Socket("s"),
+    ..DEFAULTS
+};
+
 const STAYING: Listening<'static> = Listening {
+    place: Place::Socket("s"),
     sessions: 64,
     stays: true,
     grace: Some(3600),
     idle: Some(43_200),
     lapse: 60,
-    socket: Some("s"),
     is_logged: true,
     ..DEFAULTS
 };
@@ -53,7 +64,7 @@ const NEVER_LAPSING: Listening<'static> = Listening {
     ..DEFAULTS
 };
 
-const ASKED: [Asked<'static>; 31] = [
+const ASKED: [Asked<'static>; 34] = [
     (&["amserve", "alone"], Ok(Options::Alone { auto: 16 })),
     (
         &["amserve", "alone", "--auto", "0"],
@@ -89,8 +100,8 @@ const ASKED: [Asked<'static>; 31] = [
     ),
     (
         &[
-            "amserve", "listen", "--port", "0", "--stay", "--grace", "3600", "--idle", "43200",
-            "--socket", "s", "--log",
+            "amserve", "listen", "--socket", "s", "--stay", "--grace", "3600", "--idle", "43200",
+            "--log",
         ],
         Ok(Options::Listen(STAYING)),
     ),
@@ -154,9 +165,18 @@ const ASKED: [Asked<'static>; 31] = [
         Err(2),
     ),
     (
-        &["amserve", "listen", "--port", "0", "--socket", "s"],
+        &["amserve", "listen", "--socket", "s"],
+        Ok(Options::Listen(AT_A_SOCKET)),
+    ),
+    (
+        &["amserve", "listen", "--port", "7070", "--socket", "s"],
+        Ok(Options::Listen(AT_BOTH)),
+    ),
+    (
+        &["amserve", "listen", "--socket", "s", "--port", "65536"],
         Err(2),
     ),
+    (&["amserve", "listen", "--stay", "--sessions", "2"], Err(2)),
     (
         &["amserve", "listen", "--port", "0", "--stay", "--socket", ""],
         Err(2),

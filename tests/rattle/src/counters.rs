@@ -3,7 +3,7 @@
 use am_counters::{CounterSeat, Counters};
 use am_engine::was_refused;
 use am_latch::{Blank, Latch, LatchName, Seat};
-use am_record::{HashKey, Step};
+use am_record::{HashKey, MAX_RUNS, Step};
 use std::marker::Brand;
 use std::process::Abort;
 use std::sync::Wait;
@@ -97,7 +97,7 @@ fn beside_the_latch<L: LatchName + Send + Sync, R: Threads + Wait + Clock + Sync
 fn words_while_the_latch_is_held(rt: HostRuntime) -> Result<(), Fail> {
     let (counters, mut counter_seats) = Counters::open(rt.alloc(), 1)?;
     let mut counter_seat = counter_seats.pop().ok_or("no seat")?;
-    let blank = Blank::new(rt.alloc(), 1)?;
+    let blank = Blank::new(rt.alloc(), 1, MAX_RUNS)?;
     let found = beside_the_latch::<Brand, HostRuntime>(&rt, blank, &counters, &mut counter_seat)?;
     assert_eq!(rt; found, (Some(0), 0, true));
     Ok(())
@@ -138,7 +138,7 @@ fn publish_then_seen(rt: HostRuntime) -> Result<(), Fail> {
     let (counters, mut counter_seats) = Counters::open(rt.alloc(), 2)?;
     let mut other = counter_seats.pop().ok_or("no seat")?;
     let mut counter_seat = counter_seats.pop().ok_or("no seat")?;
-    let blank = Blank::new(rt.alloc(), 1)?;
+    let blank = Blank::new(rt.alloc(), 1, MAX_RUNS)?;
     let seen = publishes_the_third::<Brand, HostRuntime>(
         &rt,
         blank,

@@ -36,6 +36,8 @@ mod recording;
 mod records;
 mod refused;
 mod replica_logs;
+mod replica_pieces;
+mod replica_texts;
 mod replicas;
 mod replies;
 mod requests;

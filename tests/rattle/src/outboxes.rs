@@ -25,8 +25,9 @@ fn lines_wait_up_to_a_bound(rt: HostRuntime) -> Result<(), Fail> {
     assert!(rt; sink.give(LINE).is_err());
     assert_eq!(rt; outbox.len(&rt), BOUND);
     let path = "outbox_of_a_test";
-    let (_, file) = TraceFile::open_or_say(&rt, path).map_err(|_| "no file")?;
-    outbox.give_file(&rt, GrowingFile::new(file, None));
+    let (_, file) = TraceFile::open_growing(&rt, path).map_err(|_| "no file")?;
+    let name = String::from_str(rt.alloc(), path)?;
+    outbox.give_file(&rt, GrowingFile::new(file, name, false));
     outbox.close(&rt);
     outbox.write_out(&rt);
     assert_eq!(rt; outbox.len(&rt), 0);

@@ -1,10 +1,11 @@
 //! A backend that notes what is asked of it.
 
-use am_dialogue::HoldAnswer;
-use am_record::{Reply, Step};
+use am_dialogue::{ActiveSession, ActiveSessions, EndAnswer, HoldAnswer};
+use am_record::{NoMemory, Reply, Step};
 use am_session::{Backend, End, serve};
 use am_sink::{Failed, Sink, StopSink};
 use am_stream::{PieceSource, Source};
+use std::alloc::Global;
 use std::process::Abort;
 use std::rt::Clock;
 use std::sync::Wait;
@@ -24,10 +25,14 @@ impl<'a> Backend for Noting<'a> {
       steps = λ _ _ _ _. Unit {0};
       shows = λ _ _ _ _. Unit {0};
       holds = λ _ _ _. Unit {0};
+      tells = λ _ _. Unit {0};
+      ends = λ _ _ _. Unit {0};
       lapses = Unit {0};
     } };
 
-    fn call<W: Wait>(&mut self, _rt: &W, step: Step) -> Reply {
+    type Held = ();
+
+    fn call<W: Wait>(&mut self, _rt: &W, _held: &mut Option<()>, step: Step) -> Reply {
         match step {
             Step::Begin => {
                 self.active = Some(1);
@@ -54,6 +59,32 @@ impl<'a> Backend for Noting<'a> {
 
     fn hold<W: Wait + Clock>(&self, _rt: &W, _millis: u64) -> HoldAnswer {
         HoldAnswer::Granted
+    }
+
+    // Its number is 0, and that of another one 7.
+    fn who<W: Wait + Clock>(&self, _rt: &W, alloc: Global) -> Result<ActiveSessions, NoMemory> {
+        let mut sessions = Vec::new(alloc);
+        if let Some(tx) = self.active {
+            sessions.push(ActiveSession {
+                session: 0,
+                tx,
+                seconds: 0,
+            })?;
+            sessions.push(ActiveSession {
+                session: 7,
+                tx: u64::MAX,
+                seconds: 60,
+            })?;
+        }
+        Ok(ActiveSessions::new(sessions))
+    }
+
+    fn end<W: Wait>(&self, _rt: &W, session: u64) -> EndAnswer {
+        match session {
+            0 => EndAnswer::EndsItself,
+            7 => EndAnswer::Ends,
+            _ => EndAnswer::NoSession,
+        }
     }
 
     fn may_lapse(&self) -> bool {
@@ -88,6 +119,25 @@ fn what_is_active_is_aborted(rt: HostRuntime) -> Result<(), Fail> {
         let end = serve(&rt, rt.alloc(), &mut source, &mut sink, &mut backend, 0);
         assert!(rt; end == End::NoMemory || aborts.load(Ordering::SeqCst) == 1);
     }
+    Ok(())
+}
+
+// What came behind the END of the session itself is not answered, and what was active is aborted.
+#[test]
+fn who_ends_itself_is_done(rt: HostRuntime) -> Result<(), Fail> {
+    let aborts = AtomicU64::new(0);
+    let mut backend = Noting {
+        active: None,
+        aborts: &aborts,
+    };
+    let lines = b"WHO\nBEGIN\nWHO\nEND 7\nEND 8\nEND\nEND 0\nSEEN\nQUIT\n".as_slice();
+    let mut source = PieceSource::new(lines, &[], 0);
+    let mut sink = StopSink::new(rt.alloc(), 0);
+    let end = serve(&rt, rt.alloc(), &mut source, &mut sink, &mut backend, 0);
+    assert!(rt; end == End::EndedItself && aborts.load(Ordering::SeqCst) == 1);
+    let told =
+        b"WHO 0\nBEGUN 1\nWHO 2 0:1:0 7:18446744073709551615:60\nOK\nERR SESSION\nERR SYNTAX\nOK\n";
+    assert!(rt; sink.into_bytes().as_slice() == told.as_slice());
     Ok(())
 }
 

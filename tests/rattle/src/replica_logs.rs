@@ -19,10 +19,11 @@ fn moved(since: u64, generation: u64, writer: u128) -> Event {
     })
 }
 
-// A letter by the number of the entry, and its text.
-fn add(rt: &impl Abort, told: &mut Vec<u8>, name: Name, text: &Text) {
+// A letter by the number of the entry, and its text, or `?` where pieces are missing.
+fn add(rt: &impl Abort, told: &mut Vec<u8>, name: Name, text: Option<&Text>) {
     told.push(b'a' + name.number as u8).expect(rt, "memory");
-    told.extend_from_slice(text.as_slice()).expect(rt, "memory");
+    let text = text.map_or(b"?".as_slice(), Text::as_slice);
+    told.extend_from_slice(text).expect(rt, "memory");
 }
 
 // What a reader makes of each event: a letter of the entry that it ends, with its text, `.` for nothing, `!` for a fault.
@@ -30,7 +31,7 @@ fn read(rt: &impl Abort, alloc: Global, log: &mut Log, events: &[(u64, Event, &[
     let mut told = Vec::new(alloc);
     for (revision, event, text) in events {
         match log.take(alloc, *revision, *event, text) {
-            Ok(Some(Entry { name, text })) => add(rt, &mut told, name, &text),
+            Ok(Some(Entry { name, text })) => add(rt, &mut told, name, text.as_ref()),
             Ok(None) => told.push(b'.').expect(rt, "memory"),
             Err(_) => told.push(b'!').expect(rt, "memory"),
         }
@@ -103,6 +104,25 @@ fn a_reader_by_a_snapshot_misses_no_piece(rt: HostRuntime) {
     let mut other = Log::behind(alloc, floor);
     let told = read(&rt, alloc, &mut other, &events[1..]);
     assert!(rt; told.as_slice() == b".b2b13".as_slice(), "{told:?}");
+}
+
+#[test]
+fn a_missing_piece_is_told(rt: HostRuntime) {
+    let alloc = rt.alloc();
+    let mut log = Log::new(alloc);
+    let events: [(u64, Event, &[u8]); 8] = [
+        (2, put(0, name(7, 1), Part::Piece(1), true), b"1"),
+        (3, put(0, name(7, 1), Part::Head, true), b"2"),
+        // Another entry's piece isn't this one's.
+        (4, put(0, name(8, 2), Part::Piece(0), true), b"3"),
+        (5, put(0, name(7, 2), Part::Piece(1), true), b"4"),
+        (6, put(0, name(7, 2), Part::Head, true), b"5"),
+        (7, put(0, name(8, 2), Part::Piece(1), true), b"6"),
+        (8, put(0, name(8, 2), Part::Piece(2), true), b"7"),
+        (9, put(0, name(8, 2), Part::Head, true), b"8"),
+    ];
+    let told = read(&rt, alloc, &mut log, &events);
+    assert!(rt; told.as_slice() == b".b?..c?..c3678".as_slice(), "{told:?}");
 }
 
 #[test]

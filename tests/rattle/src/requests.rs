@@ -31,6 +31,13 @@ fn lines_of_a_word_or_a_key_are_read(rt: HostRuntime) {
     asks(&rt, alloc, b"ABORT", Request::Abort);
     asks(&rt, alloc, b"SEEN", Request::Seen);
     asks(&rt, alloc, b"HOLD 60001", Request::Hold(60_001));
+    asks(&rt, alloc, b"WHO", Request::Who);
+    asks(
+        &rt,
+        alloc,
+        b"END 18446744073709551615",
+        Request::End(u64::MAX),
+    );
     asks(&rt, alloc, b"QUIT", Request::Quit);
     let get = Op::Get(key(&rt, b"05"));
     asks(&rt, alloc, b"GET 05", Request::Do(get));

@@ -2,7 +2,9 @@
 
 use am_btree::BTree;
 use am_core::Store;
-use am_dialogue::{Action, HoldAnswer, Response, Session, parse, put_response};
+use am_dialogue::{
+    Action, ActiveSessions, EndAnswer, HoldAnswer, Response, Session, parse, put_response,
+};
 use am_record::{Entry, HashKey, NoMemory};
 use am_sink::StopSink;
 use am_stream::{LineKind, MAX_LINE_LEN};
@@ -74,8 +76,13 @@ impl Scene {
                 reply_text(self.alloc, &reply)
             }
             Action::TellSeen => text_of(self.alloc, &Response::Seen(0, self.store.commits())),
-            // (a scene has no turnstile)
+            // (a scene has no turnstile, and no connections)
             Action::AskHold(_) => text_of(self.alloc, &Response::Hold(HoldAnswer::Granted)),
+            Action::TellWho => {
+                let nobody = ActiveSessions::new(Vec::new(self.alloc));
+                text_of(self.alloc, &Response::Who(nobody))
+            }
+            Action::AskEnd(_) => text_of(self.alloc, &Response::End(EndAnswer::NoSession)),
         }
     }
 

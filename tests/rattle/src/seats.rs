@@ -86,7 +86,7 @@ fn by_two_threads<L: LatchName + Send + Sync, R: Threads + Wait + Abort + Sync>(
 
 #[test]
 fn two_seats_on_two_threads(rt: HostRuntime) -> Result<(), Fail> {
-    by_two_threads::<Brand, HostRuntime>(&rt, rt.alloc(), Blank::new(rt.alloc(), 2)?)
+    by_two_threads::<Brand, HostRuntime>(&rt, rt.alloc(), Blank::new(rt.alloc(), 2, MAX_RUNS)?)
 }
 
 // All seats are there, so many, and no step was taken.
@@ -119,7 +119,7 @@ fn without_one<L: LatchName, R: Abort>(rt: &R, blank: Blank) -> Result<(), Fail>
 
 #[test]
 fn a_missing_seat_is_told(rt: HostRuntime) -> Result<(), Fail> {
-    without_one::<Brand, HostRuntime>(&rt, Blank::new(rt.alloc(), 2)?)
+    without_one::<Brand, HostRuntime>(&rt, Blank::new(rt.alloc(), 2, MAX_RUNS)?)
 }
 
 // Of three seats two go to sessions and one to a worker. Taken back they are all that the latch has, so it closes.
@@ -136,6 +136,7 @@ fn assigned<L: LatchName, R: Abort>(
         &latch,
         &counters,
         &house.turnstile,
+        &house.connections,
         &house.pacer,
         house.mode,
         seats,
@@ -155,8 +156,8 @@ fn the_first_seats_are_the_sessions(rt: HostRuntime) -> Result<(), Fail> {
     let (listener, port) = listen_at_port(&rt, 0)?;
     let door = Door::Port { listener, port };
     let doors = Doors {
-        port: &door,
-        socket: None,
+        first: &door,
+        second: None,
     };
     let limits = Limits {
         idle: None,
@@ -173,7 +174,7 @@ fn the_first_seats_are_the_sessions(rt: HostRuntime) -> Result<(), Fail> {
         Mode::Bounded,
         limits,
     )?;
-    let blank = Blank::new(rt.alloc(), 3)?;
+    let blank = Blank::new(rt.alloc(), 3, MAX_RUNS)?;
     assigned::<Brand, HostRuntime>(&rt, rt.alloc(), blank, &house)
 }
 
@@ -195,7 +196,7 @@ fn begun_by_all<L: LatchName, R: Wait + Abort>(
 
 #[test]
 fn sixty_five_seats_of_one_latch(rt: HostRuntime) -> Result<(), Fail> {
-    let blank = Blank::new(rt.alloc(), 65)?;
+    let blank = Blank::new(rt.alloc(), 65, MAX_RUNS)?;
     let replies = begun_by_all::<Brand, HostRuntime>(&rt, rt.alloc(), blank)?;
     assert_eq!(rt; replies.len(), 65);
     assert!(rt; replies[0] == Reply::Begun(1));
@@ -254,7 +255,7 @@ fn in_pieces<L: LatchName, R: Wait + Abort>(
 
 #[test]
 fn a_trace_in_pieces(rt: HostRuntime) -> Result<(), Fail> {
-    in_pieces::<Brand, HostRuntime>(&rt, rt.alloc(), Blank::new(rt.alloc(), 1)?)
+    in_pieces::<Brand, HostRuntime>(&rt, rt.alloc(), Blank::new(rt.alloc(), 1, MAX_RUNS)?)
 }
 
 // What so many pieces have, one behind another. Whether each began where the one before it ended.
@@ -314,7 +315,7 @@ fn beside_two_seats<L: LatchName + Send + Sync, R: Threads + Wait + Abort + Sync
 
 #[test]
 fn a_taker_beside_two_seats(rt: HostRuntime) -> Result<(), Fail> {
-    beside_two_seats::<Brand, HostRuntime>(&rt, rt.alloc(), Blank::new(rt.alloc(), 2)?)
+    beside_two_seats::<Brand, HostRuntime>(&rt, rt.alloc(), Blank::new(rt.alloc(), 2, MAX_RUNS)?)
 }
 
 // A seat without receipts looks at what the others did, and is lent the engine of its latch.
@@ -335,7 +336,7 @@ fn without_receipts<L: LatchName, R: Wait + Abort>(rt: &R, blank: Blank) -> Resu
 
 #[test]
 fn a_look_without_receipts(rt: HostRuntime) -> Result<(), Fail> {
-    without_receipts::<Brand, HostRuntime>(&rt, Blank::new(rt.alloc(), 2)?)
+    without_receipts::<Brand, HostRuntime>(&rt, Blank::new(rt.alloc(), 2, MAX_RUNS)?)
 }
 
 /// Many times as many pairs as a server keeps before they are handed out.
@@ -366,5 +367,5 @@ fn keeps_many<L: LatchName, R: Wait + Abort>(rt: &R, blank: Blank) -> Result<(),
 
 #[test]
 fn many_pairs_wait(rt: HostRuntime) -> Result<(), Fail> {
-    keeps_many::<Brand, HostRuntime>(&rt, Blank::new(rt.alloc(), 1)?)
+    keeps_many::<Brand, HostRuntime>(&rt, Blank::new(rt.alloc(), 1, MAX_RUNS)?)
 }

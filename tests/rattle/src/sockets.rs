@@ -1,6 +1,6 @@
 //! Clients of a server, over sockets.
 
-use am_doors::{Limits, Mode};
+use am_doors::{Door, Limits, Mode};
 use am_keeper::{Counts, Keeping, Watcher};
 use am_record::HashKey;
 use am_server::{ServerTrace, bind};
@@ -56,10 +56,17 @@ fn nobody_keeps() -> Keeping<LetGo, Unwatched> {
     }
 }
 
+fn port_of(door: &Door) -> Option<u16> {
+    match door {
+        Door::Port { port, .. } => Some(*port),
+        Door::Socket { .. } => None,
+    }
+}
+
 #[test]
 fn two_clients_beside_a_worker(rt: HostRuntime) -> Result<(), Fail> {
     let bound = bind(&rt, 0).ok().ok_or("no port")?;
-    let port = bound.port();
+    let port = port_of(bound.door()).ok_or("no port")?;
     let (served, said) = thread::join(
         &rt,
         || bound.serve(&rt, Mode::Bounded, 2, 1, HashKey::known(), nobody_keeps()),
@@ -84,6 +91,7 @@ fn two_clients_beside_a_worker(rt: HostRuntime) -> Result<(), Fail> {
 #[test]
 fn a_port_in_use_is_refused(rt: HostRuntime) -> Result<(), Fail> {
     let bound = bind(&rt, 0).ok().ok_or("no port")?;
-    assert!(rt; bind(&rt, bound.port()).is_err());
+    let port = port_of(bound.door()).ok_or("no port")?;
+    assert!(rt; bind(&rt, port).is_err());
     Ok(())
 }

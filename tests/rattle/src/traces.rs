@@ -1,6 +1,6 @@
 //! The texts of stored traces.
 
-use am_record::{Key, Op, Reply, Step, Value};
+use am_record::{Key, LAST_RUN, MAX_RUNS, Op, Reply, Step, Value};
 use am_trace_fields::read_by_fields;
 use am_trace_front::front_event;
 use am_trace_print::trace_text;
@@ -8,6 +8,12 @@ use am_trace_read::{TraceFault, read_trace};
 use am_trace_text::{Version, byte_of, digit_of};
 
 const STORED: &[u8] = b"TRACE 2
+SCAN 1 h h6162 18446744073709551615 | ROWS 2 h61=h h6162=h00ff
+LOAD 1 h61=h78 | ENDED h61 2
+";
+
+// The same lines in version 3.
+const STORED_IN_3: &[u8] = b"TRACE 3
 SCAN 1 h h6162 18446744073709551615 | ROWS 2 h61=h h6162=h00ff
 LOAD 1 h61=h78 | ENDED h61 2
 ";
@@ -37,7 +43,7 @@ const USUAL: [&[u8]; 7] = [
 const BAD: [(&[u8], u64); 24] = [
     (b"", 1),
     (b"TRACE 2", 1),
-    (b"TRACE 3\n", 1),
+    (b"TRACE 4\n", 1),
     (b"TRACE 2\r\n", 1),
     (b"TRACE 2\n\n", 2),
     (b"TRACE 2\nBEGIN | BEGUN 1", 2),
@@ -78,6 +84,14 @@ fn version_1_has_numbers_as_keys(rt: HostRuntime) {
     assert!(rt; trace.len() == 3);
     let value = Value::new(b"a").unwrap();
     assert!(rt; trace[1] == (Step::Do(1, Op::Insert(Key::of_u64(5), value)), Reply::Done));
+}
+
+#[test]
+fn version_3_has_the_lines_of_version_2(rt: HostRuntime) {
+    let trace = read_trace(rt.alloc(), STORED).expect(&rt, "the text of a trace");
+    let same = read_trace(rt.alloc(), STORED_IN_3).expect(&rt, "the text of a trace");
+    assert!(rt; same.len() == 2 && same[0] == trace[0] && same[1] == trace[1]);
+    assert!(rt; Version::Two.most_runs() == MAX_RUNS && Version::Three.most_runs() == LAST_RUN);
 }
 
 #[test]

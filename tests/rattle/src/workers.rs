@@ -1,7 +1,9 @@
 //! Workers that merge on the seats of a latch.
 
 use am_latch::{Blank, Latch, LatchName, Seat, close};
-use am_record::{HashKey, Key, Lock, Mode, Op, Range, Records, Refusal, Reply, Step, Value};
+use am_record::{
+    HashKey, Key, Lock, MAX_RUNS, Mode, Op, Range, Records, Refusal, Reply, Step, Value,
+};
 use am_turns::{Pacer, Upkeep};
 use am_workers::run_workers;
 use std::alloc::Global;
@@ -82,7 +84,7 @@ fn by_two_workers<L: LatchName + Send + Sync, R: Threads + Wait + Clock + Abort 
 // Workers that have their turns one after another never meet.
 #[test]
 fn workers_at_the_same_time(rt: HostRuntime) -> Result<(), Fail> {
-    by_two_workers::<Brand, HostRuntime>(&rt, Blank::new(rt.alloc(), 2)?)
+    by_two_workers::<Brand, HostRuntime>(&rt, Blank::new(rt.alloc(), 2, MAX_RUNS)?)
 }
 
 pub(crate) struct Always;
@@ -184,7 +186,7 @@ fn by_one_worker<L: LatchName + Send + Sync, R: Threads + Wait + Abort + Sync>(
 
 #[test]
 fn moves_come_back(rt: HostRuntime) -> Result<(), Fail> {
-    by_one_worker::<Brand, HostRuntime>(&rt, rt.alloc(), Blank::new(rt.alloc(), 2)?)
+    by_one_worker::<Brand, HostRuntime>(&rt, rt.alloc(), Blank::new(rt.alloc(), 2, MAX_RUNS)?)
 }
 
 // Turns of a worker on a store with nothing to merge, by this limit. What it was answered.
@@ -211,7 +213,7 @@ fn answers_of_one_worker<L: LatchName + Send + Sync, R: Threads + Wait + Abort +
 // A limit out of bounds is refused at each turn, and the turns go on.
 #[test]
 fn a_limit_of_65(rt: HostRuntime) -> Result<(), Fail> {
-    let blank = Blank::new(rt.alloc(), 1)?;
+    let blank = Blank::new(rt.alloc(), 1, MAX_RUNS)?;
     let answers = answers_of_one_worker::<Brand, HostRuntime>(&rt, rt.alloc(), blank, 3, 65)?;
     assert_eq!(rt; answers.len(), 3);
     for answer in &answers {
@@ -237,7 +239,7 @@ fn turns_of<L: LatchName + Send + Sync, R: Threads + Wait + Abort + Sync>(
 #[test]
 fn all_seats_have_their_turns(rt: HostRuntime) -> Result<(), Fail> {
     for seats in [17, 1_024] {
-        let blank = Blank::new(rt.alloc(), seats)?;
+        let blank = Blank::new(rt.alloc(), seats, MAX_RUNS)?;
         assert_eq!(rt; turns_of::<Brand, HostRuntime>(&rt, blank)?, 2 * seats);
     }
     Ok(())
@@ -272,7 +274,7 @@ fn behind_a_locked_record<L: LatchName + Send + Sync, R: Threads + Wait + Abort 
 
 #[test]
 fn workers_go_on_behind_a_lock(rt: HostRuntime) -> Result<(), Fail> {
-    let blank = Blank::new(rt.alloc(), 2)?;
+    let blank = Blank::new(rt.alloc(), 2, MAX_RUNS)?;
     let moved = behind_a_locked_record::<Brand, HostRuntime>(&rt, rt.alloc(), blank)?;
     assert_eq!(rt; moved, 1);
     Ok(())

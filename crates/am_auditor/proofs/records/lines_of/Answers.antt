@@ -5,14 +5,14 @@ use Rattle.am_auditor.proofs.records.lines_of.Goals as goal
 pub returns-clause-against : goal.returns-clause-against
 returns-clause-against c =
     let judged = c.in_ok-audit.ensures.judged in (
-      c.judgement_of.ensures.told c.args.text.now judged.0 judged.1 (c.in-Err.ensures.wrong 65535 judged.0 judged.2),
+      c.judgement_of.ensures.told c.args.text.now judged.0 judged.1 (c.in-Err.ensures.wrong _ judged.0 judged.2),
       c.judgement_of.ensures.others,
     )
 
 pub returns-in-Ok-records_text-clause-records : goal.returns-in-Ok-records_text-clause-records
 returns-in-Ok-records_text-clause-records c =
     let judged = c.in_ok-audit.ensures.judged in
-    let legal = c.in-Ok.ensures.legal 65535 judged.0 judged.2 in
+    let legal = c.in-Ok.ensures.legal _ judged.0 judged.2 in
     record {
       trace = judged.0;
       is_text = judged.1;

@@ -1,12 +1,14 @@
 use Rattle.std.proofs.Common.{[], refl}
+use Rattle.am_record.specs.Limits.{max_runs}
 use Rattle.am_sound.specs.StoreState.{empty_state}
 use Rattle.am_core.proofs.StoreSteps.{stands_opened}
 use Rattle.am_engine.proofs.figures.empty_figures.Goals as goal
 
 pub returns : goal.returns
 returns c = record {
-  store = empty_state 65535;
-  stands = stands_opened 65535 (empty_state 65535) (c.steps_lift.ensures.opened 65535) c.steps_lift.ensures.sound refl;
+  store = empty_state max_runs;
+  stands = stands_opened max_runs (empty_state max_runs) (c.steps_lift.ensures.opened max_runs)
+      c.steps_lift.ensures.sound refl;
   figures = record {
     entries = refl;
     in_final = refl;

@@ -2,6 +2,7 @@ use Rattle.std.proofs.Common.{rules, ap, sym, ◌≡◌, ◌∙◌, subst, lengt
 use Rattle.am_serial.specs.Trace.{Trace}
 use Rattle.am_serial.specs.Legal.{IsLegal}
 use Rattle.am_core.specs.StoreSteps.{IsSoundAt}
+use Rattle.am_sound.specs.Right.{IsSoundStore}
 use Rattle.am_ties.specs.CallLogs.{CallLog}
 use Rattle.am_engine.specs.Traces.{log_of}
 use Rattle.am_latch.specs.Receipts.{SeatState, AreAll, HaveReceiptsIn, AreReceiptsOf, NumberedBelow}
@@ -79,9 +80,15 @@ pub returns-clause-stands : goal.returns-clause-stands
 returns-clause-stands g c = subst (λ (l : Trace). IsSoundAt l c.into_parts-trace.result.1) (sym (whole_trace g c))
     c.into_parts-trace.ensures.stands
 
+pub returns-clause-sound : goal.returns-clause-sound
+returns-clause-sound g c = subst (IsSoundStore g.L.LatchName.most_runs) (sym (whole_trace g c))
+    (subst (λ (n : ℕ). IsSoundStore n c.engine.inside.engine.trace)
+    (c.into_parts-trace.ensures.most ∙ c.engine.invariant.most) c.into_parts-trace.ensures.stands.sound)
+
 pub returns-clause-legal : goal.returns-clause-legal
-returns-clause-legal g c = subst (IsLegal 65535) (sym (whole_trace g c))
-    (subst (λ (n : ℕ). IsLegal n c.engine.inside.engine.trace) c.into_parts-trace.ensures.most
+returns-clause-legal g c = subst (IsLegal g.L.LatchName.most_runs) (sym (whole_trace g c))
+    (subst (λ (n : ℕ). IsLegal n c.engine.inside.engine.trace) (c.into_parts-trace.ensures.most ∙
+    c.engine.invariant.most)
     (c.sound_traces_are_legal.ensures _ _ c.into_parts-trace.ensures.stands.sound.sound))
 
 pub returns-clause-all : goal.returns-clause-all

@@ -1,4 +1,4 @@
-use Rattle.std.proofs.Common.{◌∙◌, rules, sym, subst, ap, length, arith, All, List}
+use Rattle.std.proofs.Common.{◌∙◌, ℕ, rules, sym, subst, ap, length, arith, All, List}
 use denote.Exit.{no}
 use denote.Param.{param}
 use denote.Param.Send.{arg_send, param_send, shr_send, sendable}
@@ -8,7 +8,7 @@ use Rattle.am_doors.specs.contracts.house.House as House
 use Rattle.am_session_seat.specs.Seats.{IsNewSeat}
 use Rattle.am_latch.specs.Receipts.{SeatState}
 use Rattle.am_doors.specs.Modes.{most_sessions}
-use Rattle.am_server.specs.ServerTraces.{HasStored}
+use Rattle.am_server.specs.ServerTraces.{HasStored, IsOfSessions}
 use Rattle.am_session_seat.proofs.SeatOrder.{all_new, count_back, all_there, joined_seats, length-numbered}
 use Rattle.am_server.proofs.WorkedSeats.{all_of_workers}
 use Rattle.am_server.proofs.InTurn.{all_came_back, all_of_turns, as_many_served}
@@ -40,7 +40,7 @@ assign_seats-requires-clause-few g c = omega (
 
 pub take_seats-requires : goal.take_seats-requires
 take_seats-requires g c =
-    let back = all_came_back c.args.house.now.mode (most_sessions c.args.house.now.mode)
+    let back = all_came_back c.args.house.now.mode g.L.LatchName.most_runs (most_sessions c.args.house.now.mode)
     c.in_ok-session_seats.session_seats.items c.join-beside.result.1.items
     c.in_ok-session_seats.worker_seats.items c.join-beside.result.0.worker_seats.items c.in-Ok.seats.items
     c.join-beside.ensures.second c.join-beside.ensures.first.1 c.in_ok-session_seats.ensures.seats in
@@ -50,7 +50,7 @@ take_seats-requires g c =
 
 pub unreachable-requires : goal.unreachable-requires
 unreachable-requires g c =
-    let back = all_came_back c.args.house.now.mode (most_sessions c.args.house.now.mode)
+    let back = all_came_back c.args.house.now.mode g.L.LatchName.most_runs (most_sessions c.args.house.now.mode)
     c.in_ok-session_seats.session_seats.items c.join-beside.result.1.items
     c.in_ok-session_seats.worker_seats.items c.join-beside.result.0.worker_seats.items c.in-Ok.seats.items
     c.join-beside.ensures.second c.join-beside.ensures.first.1 c.in_ok-session_seats.ensures.seats in
@@ -71,7 +71,7 @@ unreachable-requires g c =
 
 pub close_all-requires : goal.close_all-requires
 close_all-requires g c =
-    let back = all_came_back c.args.house.now.mode (most_sessions c.args.house.now.mode)
+    let back = all_came_back c.args.house.now.mode g.L.LatchName.most_runs (most_sessions c.args.house.now.mode)
     c.in_ok-session_seats.session_seats.items c.join-beside.result.1.items
     c.in_ok-session_seats.worker_seats.items c.join-beside.result.0.worker_seats.items c.in-Ok.seats.items
     c.join-beside.ensures.second c.join-beside.ensures.first.1 c.in_ok-session_seats.ensures.seats in
@@ -84,7 +84,7 @@ pub returns : goal.returns
 returns g c =
     let served = c.join-beside.result.1.items in
     let worked = c.join-beside.result.0.worker_seats.items in
-    let back = all_came_back c.args.house.now.mode (most_sessions c.args.house.now.mode)
+    let back = all_came_back c.args.house.now.mode g.L.LatchName.most_runs (most_sessions c.args.house.now.mode)
     c.in_ok-session_seats.session_seats.items served c.in_ok-session_seats.worker_seats.items worked c.in-Ok.seats.items
     c.join-beside.ensures.second c.join-beside.ensures.first.1 c.in_ok-session_seats.ensures.seats in
     let seats = joined_seats c.append.new.self.items c.take_seats.new.all.items c.reserve.new.self.items worked served
@@ -93,26 +93,30 @@ returns g c =
     record {
       sessions = served;
       workers = worked;
-      all_sessions = as_many_served (most_sessions c.args.house.now.mode) c.in_ok-session_seats.session_seats.items
+      all_sessions = as_many_served g.L.LatchName.most_runs (most_sessions c.args.house.now.mode)
+          c.in_ok-session_seats.session_seats.items
           served
           c.join-beside.ensures.second ∙ c.in_ok-session_seats.ensures.count;
       all_workers = omega (
         arith,
         count_back served worked c.in-Ok.seats.items back,
-        as_many_served (most_sessions c.args.house.now.mode) c.in_ok-session_seats.session_seats.items served
+        as_many_served g.L.LatchName.most_runs (most_sessions c.args.house.now.mode)
+            c.in_ok-session_seats.session_seats.items served
             c.join-beside.ensures.second,
         c.in_ok-session_seats.ensures.count,
         ap length c.in-Ok.ensures.seats,
         length-numbered g.L.LatchName.seats,
       );
-      served = all_of_turns (most_sessions c.args.house.now.mode) c.in_ok-session_seats.session_seats.items served
-          c.join-beside.ensures.second
-          c.in_ok-session_seats.ensures.sessions;
+      served = subst (λ (n : ℕ). All (IsOfSessions n (most_sessions c.args.house.now.mode)) served) c.requires.runs
+          (all_of_turns g.L.LatchName.most_runs (most_sessions c.args.house.now.mode)
+          c.in_ok-session_seats.session_seats.items served c.join-beside.ensures.second
+          c.in_ok-session_seats.ensures.sessions);
       worked = all_of_workers c.args.house.now.mode c.in_ok-session_seats.worker_seats.items worked
           c.join-beside.ensures.first.1
           c.in_ok-session_seats.ensures.workers;
-      stored = subst (λ (l : List SeatState). HasStored g.T.PieceTaker.took c.args.keeping.pieces l c.close_all.result)
-          seats
+      stored = subst (λ (p : ℕ × List SeatState).
+          HasStored g.T.PieceTaker.took p.0 c.args.keeping.pieces p.1 c.close_all.result)
+          (λ i. (c.requires.runs i, seats i))
           (c.close_all.ensures.stored c.args.keeping.pieces
           (taken_at_first g.T.PieceTaker.took _ _ _ _ _ _ _ (search rules) (search rules) (search rules)
           c.join-beside.ensures.first.0));

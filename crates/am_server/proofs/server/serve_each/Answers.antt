@@ -12,4 +12,4 @@ for_each_mut-requires-send-T g c κs within = param_send _ _
     (arg_send _ no _ (place_send record { mir = named 4; lft = κs.1.1.1.1.0 } (param 0 g.row.L) g.L.LatchName))
 
 pub returns : goal.returns
-returns g c = all_in_turn _ _ _ c.for_each_mut.auto.s (λ i d lt. search rules)
+returns g c = all_in_turn _ _ _ _ c.for_each_mut.auto.s (λ i d lt. search rules)

@@ -3,20 +3,25 @@ use Rattle.am_server.proofs.sessions.serve_session.Goals as goal
 
 pub returns-clause-seat : goal.returns-clause-seat
 returns-clause-seat g c =
-    has_same_seat c.args.session_seat.now c.serve.new.backend c.sessions_have_receipts.ensures
-    (was_served g.S.AnsweredSource.comes g.K.Sink.holds g.K.PartingSink.parts c.args.source.now c.args.sink.now
+    has_same_seat g.L.LatchName.most_runs c.args.session_seat.now c.serve.new.backend
+    (c.sessions_have_receipts.ensures g.L.LatchName.most_runs)
+    (was_served g.L.LatchName.most_runs g.S.AnsweredSource.comes g.K.Sink.holds g.K.PartingSink.parts c.args.source.now
+    c.args.sink.now
     c.args.session_seat.now c.serve.new.source c.serve.new.sink c.serve.new.backend c.serve.result
     c.serve.ensures.served)
 
 pub returns-clause-published : goal.returns-clause-published
 returns-clause-published g c =
-    has_published c.args.session_seat.now c.serve.new.backend c.sessions_have_receipts.ensures
-    (was_served g.S.AnsweredSource.comes g.K.Sink.holds g.K.PartingSink.parts c.args.source.now c.args.sink.now
+    has_published g.L.LatchName.most_runs c.args.session_seat.now c.serve.new.backend
+    (c.sessions_have_receipts.ensures g.L.LatchName.most_runs)
+    (was_served g.L.LatchName.most_runs g.S.AnsweredSource.comes g.K.Sink.holds g.K.PartingSink.parts c.args.source.now
+    c.args.sink.now
     c.args.session_seat.now c.serve.new.source c.serve.new.sink c.serve.new.backend c.serve.result
     c.serve.ensures.served)
 
 pub returns-clause-left : goal.returns-clause-left
 returns-clause-left g c =
-    was_served g.S.AnsweredSource.comes g.K.Sink.holds g.K.PartingSink.parts c.args.source.now c.args.sink.now
+    was_served g.L.LatchName.most_runs g.S.AnsweredSource.comes g.K.Sink.holds g.K.PartingSink.parts c.args.source.now
+    c.args.sink.now
     c.args.session_seat.now c.serve.new.source c.serve.new.sink c.serve.new.backend c.serve.result
     c.serve.ensures.served

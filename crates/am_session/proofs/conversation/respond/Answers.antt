@@ -1,6 +1,6 @@
 use Rattle.std.proofs.Common.{[], ◌∷◌, refl, ap}
 use Rattle.am_dialogue.specs.Session.{SessionState}
-use Rattle.am_dialogue.specs.declared.action.Action.TheVariants.{Answer, Take, TellSeen, AskHold}
+use Rattle.am_dialogue.specs.declared.action.Action.TheVariants.{Answer, Take, TellSeen, AskHold, TellWho, AskEnd}
 use Rattle.am_session.proofs.HeardLines.{due_at}
 use Rattle.am_session.proofs.conversation.respond.Goals as goal
 
@@ -54,5 +54,30 @@ returns-in-AskHold-clause-responds g c = (
         (AskHold c.in-AskHold.millis) c.requires c.action.ensures.active
         (rw c.in-AskHold.is at c.action.ensures.action),
     (c.hold.result, refl, (c.hold.ensures.holds, (refl, refl))),
+  ),
+)
+
+pub returns-in-TellWho-clause-responds : goal.returns-in-TellWho-clause-responds
+returns-in-TellWho-clause-responds g c = (
+  [],
+  (
+    TellWho,
+    c.action.new.self.staged,
+    due_at (g.B.Backend.means.active c.args.backend.now) c.args.session.now c.action.new.self c.args.parsed TellWho
+        c.requires c.action.ensures.active (rw c.in-TellWho.is at c.action.ensures.action),
+    (c.who.result, c.of_who.ensures, (c.who.ensures.tells, (refl, refl))),
+  ),
+)
+
+pub returns-in-AskEnd-clause-responds : goal.returns-in-AskEnd-clause-responds
+returns-in-AskEnd-clause-responds g c = (
+  [],
+  (
+    AskEnd c.in-AskEnd.number,
+    c.action.new.self.staged,
+    due_at (g.B.Backend.means.active c.args.backend.now) c.args.session.now c.action.new.self c.args.parsed
+        (AskEnd c.in-AskEnd.number) c.requires c.action.ensures.active
+        (rw c.in-AskEnd.is at c.action.ensures.action),
+    (c.end.result, refl, (c.end.ensures.ends, (refl, refl))),
   ),
 )

@@ -1,6 +1,15 @@
 use Rattle.std.proofs.Common.{◌∙◌, sym}
-use Rattle.am_session.proofs.LastAborts.{ended_whole, ended_failed, ended_torn, ended_quit, ended_bye_torn}
+use Rattle.am_session.proofs.LastAborts.{ended_whole, ended_itself, ended_failed, ended_torn, ended_quit}
+use Rattle.am_session.proofs.LastAborts.{ended_bye_torn}
 use Rattle.am_session.proofs.session.serve.Goals as goal
+
+pub returns-in-EndedItself-clause-served : goal.returns-in-EndedItself-clause-served
+returns-in-EndedItself-clause-served g c =
+    ended_itself g.S.AnsweredSource.comes g.K.Sink.holds g.K.PartingSink.parts g.B.Backend.means c.args.auto
+    c.args.source.now c.talk-stop.new.source c.args.sink.now c.talk-stop.new.sink c.args.backend.now
+    (c.talk-stop.new.backend, c.talk-stop.new.session.staged) c.leave.new.backend c.active.result
+    (c.active.ensures ∙ sym c.talk-stop.ensures.active) c.leave.ensures.left
+    (rw c.new-session.ensures at c.in-EndedItself.ensures.talked)
 
 pub returns-in-EndOfInput-clause-served : goal.returns-in-EndOfInput-clause-served
 returns-in-EndOfInput-clause-served g c =

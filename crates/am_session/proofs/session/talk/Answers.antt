@@ -4,8 +4,8 @@ use Rattle.am_stream.specs.LineAnswers.{seen}
 use Rattle.am_stream.specs.Lines.{TookLine}
 use Rattle.am_session.specs.Heard.{MayHear}
 use Rattle.am_session.proofs.SessionProgress.{talk_start, talk_more, talk_end, talk_quit, talk_torn, talk_last}
-use Rattle.am_session.proofs.SessionProgress.{talk_failed}
-use Rattle.am_session.proofs.HeardLines.{quit_heard, goes_on_heard, line_answered}
+use Rattle.am_session.proofs.SessionProgress.{talk_failed, talk_itself}
+use Rattle.am_session.proofs.HeardLines.{quit_heard, answered_heard, goes_on_behind, ended_behind, line_answered}
 use Rattle.am_session.proofs.session.talk.Goals as goal
 
 pub lines-init : goal.lines-init
@@ -64,7 +64,7 @@ returns-in_default-answer-clause-talked g c =
     let a = line_answered g.B.Backend.means (c.lines.backend, c.lines.session.staged)
     (c.next_line.new.backend, c.next_line.new.session.staged) (c.answer.new.backend, c.answer.new.session.staged) line
     late c.hear-heard.result t.0 waits.0 t.1 waits.1 may t.4 in
-    let q = goes_on_heard g.B.Backend.means (c.next_line.new.backend, c.next_line.new.session.staged)
+    let q = answered_heard g.B.Backend.means (c.next_line.new.backend, c.next_line.new.session.staged)
     (c.answer.new.backend, c.answer.new.session.staged) line late c.hear-heard.result t.0 t.1 may t.4
     (sym c.if-is_quit.ensures) in
     talk_torn g.S.AnsweredSource.comes g.K.Sink.holds g.B.Backend.means c.args.auto c.args.source.now c.lines.source
@@ -72,6 +72,30 @@ returns-in_default-answer-clause-talked g c =
     (c.args.backend.now, c.args.session.now.staged) (c.lines.backend, c.lines.session.staged)
     (c.answer.new.backend, c.answer.new.session.staged) c.lines.input c.next_line.new.input (line, t.0)
     c.in-Some-next.read.found.is_ended (waits.0 ++ t.1) t.2 c.lines.invariant.talks l q t.3 a
+
+pub returns-then-not-goes_on-clause-talked : goal.returns-then-not-goes_on-clause-talked
+returns-then-not-goes_on-clause-talked g c =
+    let l = rw c.in-Some-next.is at c.in-Ok.ensures.line in
+    let line = seen c.in-Some-next.read.found.kind c.next_line.new.line in
+    let late = c.in-Some-next.read.is_late in
+    let may : MayHear late line c.hear-heard.result =
+    subst (λ (x : List ℕ). MayHear late (seen c.in-Some-next.read.found.kind x) c.hear-heard.result) c.as_slice.ensures
+    c.hear-heard.ensures in
+    let waits = rw c.in-Some-next.is at c.in-Ok.ensures.waited in
+    let t = c.in-Ok-answer.ensures.answered in
+    let a = line_answered g.B.Backend.means (c.lines.backend, c.lines.session.staged)
+    (c.next_line.new.backend, c.next_line.new.session.staged) (c.answer.new.backend, c.answer.new.session.staged) line
+    late c.hear-heard.result t.0 waits.0 t.1 waits.1 may t.3 in
+    let said = answered_heard g.B.Backend.means (c.next_line.new.backend, c.next_line.new.session.staged)
+    (c.answer.new.backend, c.answer.new.session.staged) line late c.hear-heard.result t.0 t.1 may t.3
+    (sym c.if-is_quit.ensures) in
+    let itself = ended_behind t.0 c.in-Ok-answer.goes_on t.4 c.if-not-goes_on.true in
+    talk_itself g.S.AnsweredSource.comes g.K.Sink.holds g.B.Backend.means c.args.auto c.args.source.now c.lines.source
+    c.next_line.new.source c.args.sink.now c.lines.sink c.answer.new.sink
+    (c.args.backend.now, c.args.session.now.staged) (c.lines.backend, c.lines.session.staged)
+    (c.answer.new.backend, c.answer.new.session.staged) (c.merge.new.backend, c.merge.new.session.staged)
+    c.lines.input c.next_line.new.input (line, t.0) c.in-Some-next.read.found.is_ended (waits.0 ++ t.1)
+    c.merge.ensures.merged.0 c.lines.invariant.talks l said itself t.2 a c.merge.ensures.merged.1
 
 pub returns-then-not-found-clause-talked : goal.returns-then-not-found-clause-talked
 returns-then-not-found-clause-talked g c =
@@ -89,9 +113,10 @@ returns-then-not-found-clause-talked g c =
     let a = line_answered g.B.Backend.means (c.lines.backend, c.lines.session.staged)
     (c.next_line.new.backend, c.next_line.new.session.staged) (c.answer.new.backend, c.answer.new.session.staged) line
     late c.hear-heard.result t.0 waits.0 t.1 waits.1 may t.3 in
-    let q = goes_on_heard g.B.Backend.means (c.next_line.new.backend, c.next_line.new.session.staged)
+    let said = answered_heard g.B.Backend.means (c.next_line.new.backend, c.next_line.new.session.staged)
     (c.answer.new.backend, c.answer.new.session.staged) line late c.hear-heard.result t.0 t.1 may t.3
     (sym c.if-is_quit.ensures) in
+    let q = goes_on_behind (line, t.0) c.in-Ok-answer.goes_on said t.4 c.if-not-goes_on.false in
     talk_last g.S.AnsweredSource.comes g.K.Sink.holds g.B.Backend.means c.args.auto c.args.source.now c.lines.source
     c.next_line.new.source c.args.sink.now c.lines.sink c.answer.new.sink
     (c.args.backend.now, c.args.session.now.staged) (c.lines.backend, c.lines.session.staged)
@@ -115,9 +140,10 @@ lines-preserved g c =
     let a = line_answered g.B.Backend.means (c.lines.backend, c.lines.session.staged)
     (c.next_line.new.backend, c.next_line.new.session.staged) (c.answer.new.backend, c.answer.new.session.staged) line
     late c.hear-heard.result t.0 waits.0 t.1 waits.1 may t.3 in
-    let q = goes_on_heard g.B.Backend.means (c.next_line.new.backend, c.next_line.new.session.staged)
+    let said = answered_heard g.B.Backend.means (c.next_line.new.backend, c.next_line.new.session.staged)
     (c.answer.new.backend, c.answer.new.session.staged) line late c.hear-heard.result t.0 t.1 may t.3
     (sym c.if-is_quit.ensures) in
+    let q = goes_on_behind (line, t.0) c.in-Ok-answer.goes_on said t.4 c.if-not-goes_on.false in
     record {
       talks = talk_more g.S.AnsweredSource.comes g.K.Sink.holds g.B.Backend.means c.args.auto c.args.source.now
           c.lines.source c.next_line.new.source c.args.sink.now c.lines.sink c.answer.new.sink

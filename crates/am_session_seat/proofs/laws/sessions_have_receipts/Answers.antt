@@ -4,4 +4,4 @@ use Rattle.am_session_seat.proofs.Receipts.{receipts_go}
 use Rattle.am_session_seat.proofs.laws.sessions_have_receipts.Goals as goal
 
 pub returns : goal.returns
-returns c = conversation_goes seat_meaning HasReceipts receipts_go
+returns c = λ most_runs. conversation_goes (seat_meaning most_runs) HasReceipts (receipts_go most_runs)

@@ -4,7 +4,7 @@ use Rattle.am_record.specs.Events.{Event}
 use Rattle.am_trace_text.specs.Lines.{AreEvents, header, trace_text, event_lines, IsTextOf, EndsInBadLine, IsBadLine}
 use Rattle.am_trace_text.specs.Lines.{BeginsNoEvent}
 use Rattle.am_trace_text.specs.declared.version.Version.{Version}
-use Rattle.am_trace_text.specs.declared.version.Version.TheVariants.{One, Two}
+use Rattle.am_trace_text.specs.declared.version.Version.TheVariants.{One, Two, Three}
 use Rattle.am_trace_text.proofs.EventTexts.{LineLaws, one_list, no_line}
 use Rattle.am_trace_text.proofs.laws.traces_are_texts.Goals as goal
 
@@ -12,8 +12,13 @@ use Rattle.am_trace_text.proofs.laws.traces_are_texts.Goals as goal
 one_version : (v w : Version) (a b : List ℕ) → header v ++ a ≡ header w ++ b → (v ≡ w) × (a ≡ b)
 one_version One One a b e = (refl, cc)
 one_version One Two a b e = let differs : ◌≡◌ {A = ℕ} 49 50 = cc in absurd (omega (arith, differs))
+one_version One Three a b e = let differs : ◌≡◌ {A = ℕ} 49 51 = cc in absurd (omega (arith, differs))
 one_version Two One a b e = let differs : ◌≡◌ {A = ℕ} 50 49 = cc in absurd (omega (arith, differs))
 one_version Two Two a b e = (refl, cc)
+one_version Two Three a b e = let differs : ◌≡◌ {A = ℕ} 50 51 = cc in absurd (omega (arith, differs))
+one_version Three One a b e = let differs : ◌≡◌ {A = ℕ} 51 49 = cc in absurd (omega (arith, differs))
+one_version Three Two a b e = let differs : ◌≡◌ {A = ℕ} 51 50 = cc in absurd (omega (arith, differs))
+one_version Three Three a b e = (refl, cc)
 
 -- one text, two ways to read it up to where no event begins
 both : LineLaws → (v w : Version) (a b : List Event) (r s : List ℕ) → AreEvents v a → AreEvents w b →
@@ -34,6 +39,10 @@ traces_same laws text a b h k =
     (both laws h.version k.version a b [] [] h.events k.events (nothing_begins laws h.version)
     (nothing_begins laws k.version)
     (append-nil (trace_text h.version a) ∙ sym h.spelled ∙ k.spelled ∙ sym (append-nil (trace_text k.version b)))).0
+
+versions_same : (text : List ℕ) (a b : List Event) (h : IsTextOf text a) (k : IsTextOf text b) → h.version ≡ k.version
+versions_same text a b h k =
+    (one_version h.version k.version (event_lines h.version a) (event_lines k.version b) (sym h.spelled ∙ k.spelled)).0
 
 traces_not_bad : LineLaws → (text : List ℕ) (trace : List Event) (n : ℕ) → IsTextOf text trace → IsBadLine text n → ⊥
 traces_not_bad laws text trace n h (inl none) = none.1 h.version (event_lines h.version trace) h.spelled
@@ -73,6 +82,9 @@ returns-clause-one_trace c =
       line = k.line;
     } in
     traces_same laws
+
+pub returns-clause-one_version : goal.returns-clause-one_version
+returns-clause-one_version c = versions_same
 
 pub returns-clause-not_bad : goal.returns-clause-not_bad
 returns-clause-not_bad c =

@@ -6,7 +6,7 @@ pub returns-in_default : goal.returns-in_default
 returns-in_default g c =
     let lent = c.look-seen.ensures.lent in record {
       ghost = _;
-      found = record { engine = lent.0.now; of = lent.1; own = lent.2; seen = lent.3 };
+      found = record { engine = lent.0.now; of = lent.1; own = lent.3; seen = lent.4 };
       none = inl (sym c.in_default.ensures);
       same = c.look-seen.ensures.same;
       there = refl;
@@ -16,7 +16,7 @@ pub returns-in_default-all_from : goal.returns-in_default-all_from
 returns-in_default-all_from g c =
     let lent = c.look-seen.ensures.lent in record {
       ghost = _;
-      found = record { engine = lent.0.now; of = lent.1; own = lent.2; seen = lent.3 };
+      found = record { engine = lent.0.now; of = lent.1; own = lent.3; seen = lent.4 };
       none = inr (c.in-Some.entry, sym c.in-Some.ensures, c.in_default-all_from.ensures.none);
       same = c.look-seen.ensures.same;
       there = refl;
@@ -29,8 +29,8 @@ returns g c =
       found = record {
         engine = lent.0.now;
         of = lent.1;
-        own = lent.2;
-        seen = seen_as _ _ _ _ _ c.in-Some.ensures lent.3;
+        own = lent.3;
+        seen = seen_as _ _ _ _ _ c.in-Some.ensures lent.4;
       };
       range = _;
       all = c.in-Some-all_from.ensures.from;

@@ -114,6 +114,7 @@ returns-then-not-is_kept-clause-memory c = λ is.
     let inside = c.self.inside in
     let st = c.args.step in
     let e : EngineState = record {
+      most_runs = inside.store.most_runs;
       trace = inside.handed.trace ++ inside.trace.items;
       calls = inside.handed.calls ++ inside.calls.items;
       handed = inside.handed;

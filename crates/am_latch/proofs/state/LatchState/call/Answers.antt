@@ -61,6 +61,7 @@ invariant_of-self-2 g c =
     let newest : c.newest.result.now ≡ (c.args.step, c.step_with-outcome.result.reply) =
     c.newest.ensures e.trace (c.args.step, c.step_with-outcome.result.reply) (ap (λ (d : CallLog). d.trace) after) in
     let entered = ap (λ m. m.0) c.append_call.ensures.trace_token in record {
+      most = c.step_with-outcome.ensures.most ∙ i.most;
       table_of = search rules;
       knows = c.into_badge-2.ensures.2 ∙ ap (λ (v : View). v ∷ [])
           (entered ∙ (λ j. Log (log_with (log_in (again j)) c.args.call_id (newest j).0 (newest j).1)) ∙

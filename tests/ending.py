@@ -1,0 +1,238 @@
+#!/usr/bin/env python3
+"""Who is in the way, and an end to it, from outside. `WHO` tells the sessions that have a transaction active, each with that and the
+seconds since its last line; `END s` ends a session as if its client were gone. Both are answered at any time."""
+
+import os
+import signal
+import subprocess
+import sys
+import tempfile
+import time
+from typing import Any, Dict, List, Tuple
+
+sys.dont_write_bytecode = True
+from support import LIMIT, TOP, Client, Server, alone, audit, fail, wanted  # noqa: E402
+
+sys.path.insert(0, os.path.join(TOP, "python"))
+import tiuvrokk  # noqa: E402
+
+# So much later a thread may go on than it could, on a busy machine.
+MARGIN = 5.0
+ALL = f"! {'~' * 32}"
+STOPPED = """
+import socket
+
+answers = socket.create_connection(("127.0.0.1", {port})).makefile("rw", newline="\\n")
+answers.write("BEGIN\\nLOCK X {all}\\n")
+answers.flush()
+print(answers.readline().strip(), answers.readline().strip(), flush=True)
+print(repr(answers.readline()), flush=True)
+"""
+
+
+def staying(*words: str, **how: Any) -> Server:
+    return Server("--stay", "--stop", *words, **how)
+
+
+def stopped(server: Server) -> None:
+    """Ends a server whose sessions have ended."""
+    server.close_input()
+    server.closed()
+
+
+def number_of(client: Client) -> int:
+    return int(client.ask("SEEN").split()[1])
+
+
+def who(client: Client) -> Dict[int, Tuple[int, int]]:
+    """The transaction of each session that has one, and the seconds since its last line."""
+    word, count, *told = client.ask("WHO").split(" ")
+    rows = [[int(number) for number in row.split(":")] for row in told]
+    wanted("how many there are", (word, count), ("WHO", str(len(rows))))
+    return {session: (tx, seconds) for session, tx, seconds in rows}
+
+
+def is_closed(client: Client) -> bool:
+    """Whether the server closed the connection."""
+    try:
+        return client.socket.recv(1) == b""
+    except ConnectionResetError:
+        return True
+
+
+def lines() -> None:
+    """The lines by themselves, alone: its own number is 0, and behind the END of that nothing is answered."""
+    said = alone(["WHO", "END 1", "END", "END x", "END 1 2", "WHO 1", "BEGIN", "WHO", "INS a 1", "COMMIT", "BEGIN", "WHO", "END 7", "END 0", "WHO"])
+    right = ["WHO 0", "ERR SESSION", *["ERR SYNTAX"] * 4, "BEGUN 1", "WHO 1 0:1:0", "OK", "COMMITTED 1", "BEGUN 2", "WHO 1 0:2:0", "ERR SESSION", "OK"]
+    wanted("alone", said, right)
+    wanted("beyond numbers", alone(["END 18446744073709551615", "END 18446744073709551616"]), ["ERR SESSION", "ERR RANGE"])
+
+
+def stopped_client(folder: str) -> None:
+    """A stopped client with a lock on everything, beside one that works: that is told BUSY, finds the session, and ends it. The lock
+    is free then, and the connection closed."""
+    trace = os.path.join(folder, "run")
+    server = staying("--idle-transaction", "0", trace=trace)
+    working = Client(server.port)
+    process = subprocess.Popen([sys.executable, "-c", STOPPED.format(port=server.port, all=ALL)], stdout=subprocess.PIPE, text=True)
+    out = process.stdout or fail("no output")
+    begun, locked = out.readline().split(" ", 2)[1:]
+    wanted("a client's wide lock", locked, "OK\n")
+    process.send_signal(signal.SIGSTOP)
+    time.sleep(1.2)
+    tx = int(working.ask("BEGIN").split()[1])
+    wanted("beside it", working.ask("INS a 1"), f"BUSY {begun}")
+    active = who(working)
+    own = number_of(working)
+    wanted("who works", active.pop(own)[0], tx)
+    ((sleeper, (its, seconds)),) = active.items()
+    wanted("who is in the way", (its, 1 <= seconds <= 1 + MARGIN), (int(begun), True))
+    wanted("its end", working.ask(f"END {sleeper}"), "OK")
+    wanted("the lock is free", working.ask("INS a 1"), "OK")
+    wanted("who is left", list(who(working)), [own])
+    wanted("no longer there", working.ask(f"END {sleeper}"), "ERR SESSION")
+    process.send_signal(signal.SIGCONT)
+    wanted("its connection is closed", process.communicate(timeout=LIMIT)[0], "''\n")
+    wanted("who works goes on", working.ask("COMMIT"), "COMMITTED 1")
+    working.quit()
+    stopped(server)
+    wanted("the trace", audit(trace), "LEGAL 1")
+
+
+def entries() -> None:
+    """Who is told, and who isn't: a transaction from its BEGIN to its end, however that comes, and each line makes it young."""
+    server = staying("--workers", "0")
+    asking, one, other = (Client(server.port) for _ in range(3))
+    numbers = [number_of(it) for it in (one, other)]
+    wanted("nobody", who(asking), {})
+    for end in ("COMMIT", "ABORT"):
+        tx = int(one.ask("BEGIN").split()[1])
+        wanted("one", who(asking), {numbers[0]: (tx, 0)})
+        later = int(other.ask("BEGIN").split()[1])
+        wanted("two", who(one), {numbers[0]: (tx, 0), numbers[1]: (later, 0)})
+        wanted("their ends", [it.ask(end).split()[0] for it in (one, other)], [{"COMMIT": "COMMITTED", "ABORT": "ABORTED"}[end]] * 2)
+        wanted("nobody again", who(asking), {})
+    one.ask("BEGIN")
+    time.sleep(1.5)
+    wanted("a second later", who(asking)[numbers[0]][1] >= 1, True)
+    one.ask("GET a")
+    wanted("young again", who(asking)[numbers[0]][1], 0)
+    one.quit()
+    wanted("nobody behind QUIT", who(asking), {})
+    other.ask("BEGIN")
+    other.socket.close()
+    begun = time.monotonic()
+    while who(asking):
+        if time.monotonic() - begun > LIMIT:
+            fail("a lost connection's transaction is told for ever")
+        time.sleep(0.01)
+    asking.quit()
+    stopped(server)
+
+
+def ends() -> None:
+    """Of numbers that nobody has, of the session itself, and of a place that others had before."""
+    server = staying()
+    client, one = Client(server.port), Client(server.port)
+    wanted("nobody's numbers", client.ask_all(["END 99", f"END {2**64 - 1}", "END x"]), ["ERR SESSION", "ERR SESSION", "ERR SYNTAX"])
+    gone = number_of(one)
+    one.quit()
+    again = Client(server.port)
+    wanted("another one there", number_of(again) > gone, True)
+    wanted("who was there before", client.ask(f"END {gone}"), "ERR SESSION")
+    wanted("it stays", again.ask("BEGIN").split()[0], "BEGUN")
+    wanted("a lock", again.ask("LOCK X a z"), "OK")
+    # (nothing behind it is answered)
+    again.socket.sendall(f"END {number_of(again)}\nSEEN\n".encode())
+    wanted("its own end", (again.reply(), is_closed(again)), ("OK", True))
+    begun = time.monotonic()
+    while who(client):
+        if time.monotonic() - begun > LIMIT:
+            fail("a session that ended itself has its transaction for ever")
+    wanted("its lock is free", client.ask_all(["BEGIN", "LOCK X a z", "COMMIT"])[1], "OK")
+    client.quit()
+    stopped(server)
+
+
+def beside_a_hold() -> None:
+    """Both are answered while another holds, with a transaction and without one, and who holds can be ended."""
+    server = staying()
+    holder, inside, outside = (Client(server.port) for _ in range(3))
+    number = number_of(holder)
+    wanted("a hold", holder.ask("HOLD 60000"), "OK")
+    begun = time.monotonic()
+    wanted("nobody", who(outside), {})
+    wanted("nobody's number", outside.ask("END 99"), "ERR SESSION")
+    wanted("the holder's end", outside.ask(f"END {number}"), "OK")
+    wanted("others go on", inside.ask("BEGIN").split()[0], "BEGUN")
+    wanted("with no wait", time.monotonic() - begun < MARGIN, True)
+    wanted("its connection", is_closed(holder), True)
+    again = Client(server.port)
+    again.lines.append("HOLD 60000")
+    again.socket.sendall(b"HOLD 60000\n")
+    time.sleep(0.3)
+    wanted("who keeps it from holding", list(who(outside)), [number_of(inside)])
+    wanted("is ended", outside.ask(f"END {number_of(inside)}"), "OK")
+    wanted("then it holds", again.reply(), "OK")
+    for client in (again, outside):
+        client.quit()
+    stopped(server)
+
+
+def many() -> None:
+    """64 transactions at once are one long line."""
+    server = staying("--sessions", "80", "--workers", "0")
+    clients = [Client(server.port) for _ in range(64)]
+    begun: List[int] = [int(client.ask("BEGIN").split()[1]) for client in clients]
+    asking = Client(server.port)
+    active = who(asking)
+    wanted("all of them", sorted(tx for tx, _ in active.values()), sorted(begun))
+    wanted("their ends", {asking.ask(f"END {number}") for number in active}, {"OK"})
+    wanted("nobody is left", who(asking), {})
+    wanted("tickets are free", asking.ask_all(["BEGIN", "COMMIT"])[1].split()[0], "COMMITTED")
+    asking.quit()
+    stopped(server)
+
+
+def in_python() -> None:
+    """The same by a client in Python."""
+    server = staying()
+    with tiuvrokk.connect(port=server.port) as one, tiuvrokk.connect(port=server.port) as other:
+        wanted("nobody", one.who(), [])
+        tx = other.transaction()
+        tx["a"] = "1"
+        (active,) = one.who()
+        wanted("who has one", (active.transaction, active.seconds), (tx.number, 0))
+        try:
+            one.run(lambda it: it.update(a="2"), tries=1)
+            fail("nobody is in the way")
+        except tiuvrokk.Busy as busy:
+            wanted("who is in the way", busy.holder, active.transaction)
+        wanted("its end", (one.end(active.session), one.end(active.session)), (True, False))
+        one.run(lambda it: it.update(a="2"))
+        try:
+            tx.commit()
+            fail("a session that was ended commits")
+        except tiuvrokk.Unknown:
+            pass
+        other.run(lambda it: it.update(a="3"))
+        wanted("who ended goes on at another session", (one.run(lambda it: it["a"]), one.who()), (b"3", []))
+    server.close_input()
+    server.closed()
+
+
+def main() -> None:
+    """All of it."""
+    lines()
+    with tempfile.TemporaryDirectory() as folder:
+        stopped_client(folder)
+    entries()
+    ends()
+    beside_a_hold()
+    many()
+    in_python()
+    print("ending: who has a transaction active, and an end to a stopped one, to oneself and beside a hold")
+
+
+if __name__ == "__main__":
+    main()
