@@ -149,6 +149,7 @@ def by_socket(folder: str) -> None:
         wanted("a load", run(AMLOAD, "--socket", path, text="ant\tsix\nbee\tsix\n"), (0, "", ""))
         wanted("a dump", run(AMDUMP, "--socket", path), (0, "ant\tsix\nbee\tsix\n", ""))
         wanted("a shell", run(AMCLI, "--socket", path, "--raw", text="GET ant\n"), (0, "VAL six\n", ""))
+        wanted("its end", server.stdout.read().split()[0], "CLOSED")
     wanted("its status", server.returncode, 0)
     wanted("a server that isn't there", run(AMDUMP, "--socket", path)[0], 5)
     wanted("both", run(AMDUMP, "--socket", path, "--port", "1")[0], 2)
