@@ -709,6 +709,39 @@ def peers_that_take_nothing() -> None:
     wanted("what was said", stopped(server)[2], "")
 
 
+def sends_until_stuck(client: Client, lines: bytes) -> None:
+    """Sends lines for as long as any are taken."""
+    client.socket.settimeout(1)
+    try:
+        while True:
+            client.socket.sendall(lines)
+    except socket.timeout:
+        pass
+
+
+def others_beside_them() -> None:
+    """Peers that take no answers, whatever they ask in a transaction, keep nobody waiting: a session that has the latch from one line
+    to the next lets it go before an answer could wait."""
+    server = stay("--sessions", "6", "--workers", "0")
+    working = Client(server.port)
+    wanted("records", working.ask_all(["BEGIN", *(f"INS k{n} {'v' * 64}" for n in range(9)), "COMMIT"])[-1], "COMMITTED 1")
+    asked = [b"GET k1\n" * 2000, b"FOO\nGET k1\nSEEN\n" * 1000, b"WHO\nGET k1\n" * 1000, b"SCAN k0 k9 9\nGET k1\n" * 1000]
+    deaf = [Client(server.port) for _ in asked]
+    wanted("their transactions", {client.ask("BEGIN").split()[0] for client in deaf}, {"BEGUN"})
+    senders = [threading.Thread(target=sends_until_stuck, args=them) for them in zip(deaf, asked)]
+    for sender in senders:
+        sender.start()
+    for sender in senders:
+        sender.join()
+    for _ in range(200):
+        wanted("answers beside them", working.ask_all(["BEGIN", "GET k2", "ABORT"])[1:], [f"VAL {'v' * 64}", "ABORTED"])
+    wanted("how many there are", working.ask("WHO").split()[1], "4")
+    for client in deaf:
+        client.socket.close()
+    working.quit()
+    wanted("what was said", stopped(server)[2], "")
+
+
 def switches(server: Server) -> Dict[str, int]:
     """How often each thread of the program began to wait."""
     pid, found = program(server), {}
@@ -891,13 +924,14 @@ def main() -> None:
         none_accepted()
         idle_sessions()
         peers_that_take_nothing()
+        others_beside_them()
         many_answers_at_once()
         told_by_log()
         socket_of_files(folder)
         socket_alone(folder)
         told_each_minute(logged, begun)
         told_in_vain(unheard)
-    print("staying: many connections, memory, 200,000 loads, sessions that staged, long sessions, workers that rest, waiting ones, bursts, those that aren't served, those that speak another protocol, ends by signals, a full disk, a pipe that nobody reads, few files, idle sessions, peers that take nothing, workers that are woken, the log, one that is refused, and a socket of the file system")
+    print("staying: many connections, memory, 200,000 loads, sessions that staged, long sessions, workers that rest, waiting ones, bursts, those that aren't served, those that speak another protocol, ends by signals, a full disk, a pipe that nobody reads, few files, idle sessions, peers that take nothing, others beside these, workers that are woken, the log, one that is refused, and a socket of the file system")
 
 
 if __name__ == "__main__":
