@@ -90,8 +90,24 @@ extern "C" {
         store: *mut Handle, tx: u64, lo: *const u8, lo_length: usize, hi: *const u8, hi_length: usize, rows: *mut Row, limit: usize,
         told: *mut u64,
     ) -> c_int;
+    fn tvk_put_structs(
+        store: *mut Handle, tx: u64, structs: *const c_void, number: usize, layout: *const Layout, key: *mut Key, done: *mut u64,
+        holder: *mut u64,
+    ) -> c_int;
+    fn tvk_set(
+        store: *mut Handle, tx: u64, key: *const u8, key_length: usize, value: *const u8, value_length: usize, holder: *mut u64,
+    ) -> c_int;
+    fn tvk_scan_back(
+        store: *mut Handle, tx: u64, lo: *const u8, lo_length: usize, hi: *const u8, hi_length: usize, rows: *mut Row, limit: usize,
+        told: *mut u64,
+    ) -> c_int;
+    fn tvk_delete_range(
+        store: *mut Handle, tx: u64, lo: *const u8, lo_length: usize, hi: *const u8, hi_length: usize, limit: u64, told: *mut u64,
+    ) -> c_int;
     fn tvk_merge(store: *mut Handle, limit: u64, told: *mut u64) -> c_int;
 }
+
+type Scan = unsafe extern "C" fn(*mut Handle, u64, *const u8, usize, *const u8, usize, *mut Row, usize, *mut u64) -> c_int;
 
 const OK: c_int = 0;
 const IDLE: c_int = 7;
@@ -125,6 +141,36 @@ impl Store {
         self.commit(tx);
     }
 
+    /// Puts records, which come in any order.
+    pub fn put(&mut self, records: &[Record]) {
+        let tx = self.begin();
+        let (at, number) = (records.as_ptr().cast(), records.len());
+        assert_eq!(unsafe { tvk_put_structs(&mut self.store, tx, at, number, &LAYOUT, null_mut(), null_mut(), null_mut()) }, OK);
+        self.commit(tx);
+    }
+
+    /// Sets some records one by one.
+    pub fn set(&mut self, records: &[Record]) {
+        let tx = self.begin();
+        for (key, value) in records {
+            let status = unsafe { tvk_set(&mut self.store, tx, key.as_ptr(), key.len(), value.as_ptr(), value.len(), null_mut()) };
+            assert_eq!(status, OK);
+        }
+        self.commit(tx);
+    }
+
+    /// How many records went, of those from `lo` to `hi`.
+    pub fn delete_range(&mut self, lo: &[u8], hi: &[u8]) -> usize {
+        let (tx, mut count, mut told) = (self.begin(), 0, 1000);
+        while told == 1000 {
+            let status = unsafe { tvk_delete_range(&mut self.store, tx, lo.as_ptr(), lo.len(), hi.as_ptr(), hi.len(), 1000, &mut told) };
+            assert_eq!(status, OK);
+            count += told as usize;
+        }
+        self.commit(tx);
+        count
+    }
+
     fn begin(&mut self) -> u64 {
         let mut tx = 0;
         assert_eq!(unsafe { tvk_begin(&mut self.store, &mut tx) }, OK);
@@ -146,10 +192,19 @@ impl Store {
 
     /// How many records are in the range, as far as the limit. They are copied out.
     pub fn scan(&mut self, lo: &[u8], hi: &[u8], limit: usize) -> usize {
+        self.scanned(tvk_scan, lo, hi, limit)
+    }
+
+    /// The same from the highest key down.
+    pub fn scan_back(&mut self, lo: &[u8], hi: &[u8], limit: usize) -> usize {
+        self.scanned(tvk_scan_back, lo, hi, limit)
+    }
+
+    fn scanned(&mut self, call: Scan, lo: &[u8], hi: &[u8], limit: usize) -> usize {
         let tx = self.begin();
         let mut told = 0;
         let rows = self.rows.as_mut_ptr();
-        assert_eq!(unsafe { tvk_scan(&mut self.store, tx, lo.as_ptr(), lo.len(), hi.as_ptr(), hi.len(), rows, limit, &mut told) }, OK);
+        assert_eq!(unsafe { call(&mut self.store, tx, lo.as_ptr(), lo.len(), hi.as_ptr(), hi.len(), rows, limit, &mut told) }, OK);
         self.commit(tx);
         told as usize
     }

@@ -24,6 +24,8 @@ uint32_t tiuvrokk_insert(tvk_store *store, uint64_t tx, const void *key, size_t 
                          size_t value_length, uint64_t *told);
 uint32_t tiuvrokk_replace(tvk_store *store, uint64_t tx, const void *key, size_t key_length, const void *value,
                           size_t value_length, uint64_t *told);
+uint32_t tiuvrokk_set(tvk_store *store, uint64_t tx, const void *key, size_t key_length, const void *value,
+                      size_t value_length, uint64_t *told);
 uint32_t tiuvrokk_delete(tvk_store *store, uint64_t tx, const void *key, size_t key_length, uint64_t *told);
 uint32_t tiuvrokk_load(tvk_store *store, uint64_t tx, const tvk_record *records, size_t number, tvk_key *exists,
                        uint64_t *told);
@@ -33,10 +35,23 @@ uint32_t tiuvrokk_load_structs(tvk_store *store, uint64_t tx, const void *struct
                                const tvk_layout *layout, tvk_key *key, uint64_t *loaded, uint64_t *told);
 uint32_t tiuvrokk_load_text(tvk_store *store, uint64_t tx, const void *text, size_t length, tvk_key *key, uint64_t *line,
                             uint64_t *loaded, uint64_t *told);
+uint32_t tiuvrokk_put(tvk_store *store, uint64_t tx, const tvk_record *records, size_t number, uint64_t *told);
+uint32_t tiuvrokk_put_sorting(tvk_store *store, uint64_t tx, const tvk_record *records, size_t number, tvk_key *key,
+                              uint64_t *loaded, uint64_t *told);
+uint32_t tiuvrokk_put_structs(tvk_store *store, uint64_t tx, const void *structs, size_t length, size_t number,
+                              const tvk_layout *layout, tvk_key *key, uint64_t *loaded, uint64_t *told);
+uint32_t tiuvrokk_put_text(tvk_store *store, uint64_t tx, const void *text, size_t length, tvk_key *key, uint64_t *line,
+                           uint64_t *loaded, uint64_t *told);
 uint32_t tiuvrokk_scan(tvk_store *store, uint64_t tx, const void *lo, size_t lo_length, const void *hi, size_t hi_length,
                        tvk_record *rows, size_t limit, uint64_t *told);
 uint32_t tiuvrokk_scan_behind(tvk_store *store, uint64_t tx, const void *key, size_t key_length, const void *hi,
                               size_t hi_length, tvk_record *rows, size_t limit, uint64_t *told);
+uint32_t tiuvrokk_scan_back(tvk_store *store, uint64_t tx, const void *lo, size_t lo_length, const void *hi,
+                            size_t hi_length, tvk_record *rows, size_t limit, uint64_t *told);
+uint32_t tiuvrokk_scan_before(tvk_store *store, uint64_t tx, const void *lo, size_t lo_length, const void *key,
+                              size_t key_length, tvk_record *rows, size_t limit, uint64_t *told);
+uint32_t tiuvrokk_delete_range(tvk_store *store, uint64_t tx, const void *lo, size_t lo_length, const void *hi,
+                               size_t hi_length, uint64_t limit, uint64_t *told);
 uint32_t tiuvrokk_lock(tvk_store *store, uint64_t tx, uint32_t mode, const void *lo, size_t lo_length, const void *hi,
                        size_t hi_length, uint64_t *told);
 uint32_t tiuvrokk_merge(tvk_store *store, uint64_t limit, uint64_t *told);
@@ -88,7 +103,7 @@ static const struct {
     {"TVK_TOO_MANY_OPS", "4096 operations of the transaction were answered, and may be no more"},
     {"TVK_TOO_MANY_RUNS", "65535 runs have entries, or 4294967294 loads were made"},
     {"TVK_NOT_RISING", "the records of a load don't rise strictly by key, or there are none"},
-    {"TVK_BAD_LIMIT", "a number of rows or entries is out of bounds"},
+    {"TVK_BAD_LIMIT", "a number of rows, records or entries is out of bounds"},
     {"TVK_NO_MEMORY", "memory was refused, and nothing is changed"},
     {"?", "no status has this number"},
     {"TVK_NO_STORE", "the handle has no store"},
@@ -142,7 +157,8 @@ static atomic_int cleans = 1;
 void tvk_upkeep(int on) { atomic_store(&cleans, on); }
 
 /* One clean step finds 64 ghosts at most, and walks to them from the beginning of the index: so it is made where one entry of
- * 64 is a ghost. A transaction deletes no more records than so many steps clean, so they don't become more and more. */
+ * 64 is a ghost. A transaction that deletes one by one deletes no more records than so many steps clean, and one that deletes
+ * ranges leaves some to the commits that follow. */
 #define FEWEST_GHOSTS 64
 #define ENTRIES_TO_A_GHOST 64
 #define MOST_STEPS (TVK_MAX_OPS / TVK_MAX_LIMIT + 1)
@@ -212,11 +228,49 @@ tvk_status tvk_replace(tvk_store *store, uint64_t tx, const void *key, size_t ke
     return tiuvrokk_replace(store, tx, key, key_length, value, value_length, told);
 }
 
+tvk_status tvk_set(tvk_store *store, uint64_t tx, const void *key, size_t key_length, const void *value,
+                   size_t value_length, uint64_t *told) {
+    BEGIN;
+    KEY(key);
+    VALUE(value);
+    return tiuvrokk_set(store, tx, key, key_length, value, value_length, told);
+}
+
 tvk_status tvk_delete(tvk_store *store, uint64_t tx, const void *key, size_t key_length, uint64_t *told) {
     BEGIN;
     KEY(key);
     return tiuvrokk_delete(store, tx, key, key_length, told);
 }
+
+tvk_status tvk_delete_range(tvk_store *store, uint64_t tx, const void *lo, size_t lo_length, const void *hi,
+                            size_t hi_length, uint64_t limit, uint64_t *told) {
+    BEGIN;
+    KEY(lo);
+    KEY(hi);
+    if (limit < 1 || limit > TVK_MAX_ROWS) return TVK_BAD_LIMIT;
+    return tiuvrokk_delete_range(store, tx, lo, lo_length, hi, hi_length, limit, told);
+}
+
+/* The records of a call, and no null pointer where there are none. */
+#define RECORDS                              \
+    if (!records) {                          \
+        if (number) return TVK_NULL;         \
+        records = no_records;                \
+    }
+
+#define STRUCTS                              \
+    if (!structs) {                          \
+        if (number) return TVK_NULL;         \
+        structs = no_bytes;                  \
+    }                                        \
+    NEEDS(layout);                           \
+    if (layout->size && number > PTRDIFF_MAX / layout->size) return TVK_NO_MEMORY
+
+#define LINES                                \
+    if (!text) {                             \
+        if (length) return TVK_NULL;         \
+        text = no_bytes;                     \
+    }
 
 tvk_status tvk_load(tvk_store *store, uint64_t tx, const tvk_record *records, size_t number, tvk_key *exists,
                     uint64_t *told) {
@@ -226,10 +280,7 @@ tvk_status tvk_load(tvk_store *store, uint64_t tx, const tvk_record *records, si
         unread.length = 0;
         exists = &unread;
     }
-    if (!records) {
-        if (number) return TVK_NULL;
-        records = no_records;
-    }
+    RECORDS
     return tiuvrokk_load(store, tx, records, number, exists, told);
 }
 
@@ -248,10 +299,7 @@ tvk_status tvk_load_sorting(tvk_store *store, uint64_t tx, const tvk_record *rec
                             uint64_t *loaded, uint64_t *told) {
     BEGIN_LOAD
     BEGIN;
-    if (!records) {
-        if (number) return TVK_NULL;
-        records = no_records;
-    }
+    RECORDS
     return tiuvrokk_load_sorting(store, tx, records, number, key, loaded, told);
 }
 
@@ -259,12 +307,7 @@ tvk_status tvk_load_structs(tvk_store *store, uint64_t tx, const void *structs, 
                             tvk_key *key, uint64_t *loaded, uint64_t *told) {
     BEGIN_LOAD
     BEGIN;
-    if (!structs) {
-        if (number) return TVK_NULL;
-        structs = no_bytes;
-    }
-    NEEDS(layout);
-    if (layout->size && number > PTRDIFF_MAX / layout->size) return TVK_NO_MEMORY;
+    STRUCTS;
     return tiuvrokk_load_structs(store, tx, structs, number * layout->size, number, layout, key, loaded, told);
 }
 
@@ -275,11 +318,41 @@ tvk_status tvk_load_text(tvk_store *store, uint64_t tx, const void *text, size_t
     if (!line) line = &unnumbered;
     *line = 0;
     BEGIN;
-    if (!text) {
-        if (length) return TVK_NULL;
-        text = no_bytes;
-    }
+    LINES
     return tiuvrokk_load_text(store, tx, text, length, key, line, loaded, told);
+}
+
+tvk_status tvk_put(tvk_store *store, uint64_t tx, const tvk_record *records, size_t number, uint64_t *told) {
+    BEGIN;
+    RECORDS
+    return tiuvrokk_put(store, tx, records, number, told);
+}
+
+tvk_status tvk_put_sorting(tvk_store *store, uint64_t tx, const tvk_record *records, size_t number, tvk_key *key,
+                           uint64_t *loaded, uint64_t *told) {
+    BEGIN_LOAD
+    BEGIN;
+    RECORDS
+    return tiuvrokk_put_sorting(store, tx, records, number, key, loaded, told);
+}
+
+tvk_status tvk_put_structs(tvk_store *store, uint64_t tx, const void *structs, size_t number, const tvk_layout *layout,
+                           tvk_key *key, uint64_t *loaded, uint64_t *told) {
+    BEGIN_LOAD
+    BEGIN;
+    STRUCTS;
+    return tiuvrokk_put_structs(store, tx, structs, number * layout->size, number, layout, key, loaded, told);
+}
+
+tvk_status tvk_put_text(tvk_store *store, uint64_t tx, const void *text, size_t length, tvk_key *key, uint64_t *line,
+                        uint64_t *loaded, uint64_t *told) {
+    uint64_t unnumbered;
+    BEGIN_LOAD
+    if (!line) line = &unnumbered;
+    *line = 0;
+    BEGIN;
+    LINES
+    return tiuvrokk_put_text(store, tx, text, length, key, line, loaded, told);
 }
 
 tvk_status tvk_scan(tvk_store *store, uint64_t tx, const void *lo, size_t lo_length, const void *hi, size_t hi_length,
@@ -300,6 +373,26 @@ tvk_status tvk_scan_behind(tvk_store *store, uint64_t tx, const void *key, size_
     NEEDS(rows);
     if (limit < 1 || limit > TVK_MAX_ROWS - 1) return TVK_BAD_LIMIT;
     return tiuvrokk_scan_behind(store, tx, key, key_length, hi, hi_length, rows, limit, told);
+}
+
+tvk_status tvk_scan_back(tvk_store *store, uint64_t tx, const void *lo, size_t lo_length, const void *hi, size_t hi_length,
+                         tvk_record *rows, size_t limit, uint64_t *told) {
+    BEGIN;
+    KEY(lo);
+    KEY(hi);
+    NEEDS(rows);
+    if (limit < 1 || limit > TVK_MAX_ROWS) return TVK_BAD_LIMIT;
+    return tiuvrokk_scan_back(store, tx, lo, lo_length, hi, hi_length, rows, limit, told);
+}
+
+tvk_status tvk_scan_before(tvk_store *store, uint64_t tx, const void *lo, size_t lo_length, const void *key,
+                           size_t key_length, tvk_record *rows, size_t limit, uint64_t *told) {
+    BEGIN;
+    KEY(lo);
+    KEY(key);
+    NEEDS(rows);
+    if (limit < 1 || limit > TVK_MAX_ROWS - 1) return TVK_BAD_LIMIT;
+    return tiuvrokk_scan_before(store, tx, lo, lo_length, key, key_length, rows, limit, told);
 }
 
 tvk_status tvk_lock(tvk_store *store, uint64_t tx, tvk_mode mode, const void *lo, size_t lo_length, const void *hi,

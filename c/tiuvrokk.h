@@ -25,7 +25,7 @@
  *
  * MEMORY is taken by malloc and realloc and given back by free, and by nothing else. Any call that may want memory may
  * answer TVK_NO_MEMORY, and has changed nothing then; but the runs that tvk_load_sorting, tvk_load_structs and tvk_load_text
- * loaded before stay, as `loaded` tells. tvk_begin, tvk_commit, tvk_abort, tvk_back and tvk_clean never do, and no call that
+ * loaded before stay, as `loaded` tells, and so does what the like calls of tvk_put did. tvk_begin, tvk_commit, tvk_abort, tvk_back and tvk_clean never do, and no call that
  * closes a store or counts.
  *
  * THREADS. Any thread may use a handle, one at a time: it may be opened on one, used on another, and closed on a third, where
@@ -104,7 +104,7 @@ typedef enum tvk_status {
     TVK_TOO_MANY_OPS = 11,   /* TVK_MAX_OPS operations of the transaction were answered */
     TVK_TOO_MANY_RUNS = 12,  /* TVK_MAX_RUNS runs have entries that weren't merged, or 4,294,967,294 loads were made */
     TVK_NOT_RISING = 13,     /* the records of a load don't rise strictly by key, or there are none */
-    TVK_BAD_LIMIT = 14,      /* a number of rows or entries is out of bounds */
+    TVK_BAD_LIMIT = 14,      /* a number of rows, records or entries is out of bounds */
     TVK_NO_MEMORY = 15,      /* memory was refused, and nothing is changed */
     TVK_NO_STORE = 17,       /* the handle is NULL or has no store */
     TVK_IS_OPEN = 18,        /* the handle has a store already */
@@ -124,7 +124,7 @@ enum {
     TVK_MAX_LOCKS = 256,    /* locks of a transaction */
     TVK_MAX_OPS = 4096,     /* operations of a transaction */
     TVK_MAX_RUNS = 65535,   /* runs of a store that have entries */
-    TVK_MAX_ROWS = 1000,    /* rows of a scan; of tvk_scan_behind one less */
+    TVK_MAX_ROWS = 1000,    /* rows of a scan, and records that tvk_delete_range takes; of tvk_scan_behind and _before one less */
     TVK_MAX_LIMIT = 64      /* entries of a merge or a clean */
 };
 
@@ -354,6 +354,30 @@ tvk_status tvk_insert(tvk_store *store, uint64_t tx, const void *key, size_t key
 tvk_status tvk_replace(tvk_store *store, uint64_t tx, const void *key, size_t key_length, const void *value,
                        size_t value_length, uint64_t *holder) TVK_MUST_USE;
 
+/** Sets a record: as tvk_replace where its key has one, and else as tvk_insert. Its key is locked, exclusive.
+ *
+ * @param[in,out] store   the store
+ * @param tx              the transaction
+ * @param[in] key         the key's bytes: NULL where there are none
+ * @param key_length      how many they are
+ * @param[in] value       the value's bytes: NULL where there are none
+ * @param value_length    how many they are
+ * @param[out] holder     the transaction that is in the way, or 0; NULL where it isn't wanted
+ *
+ * @retval TVK_OK              the record has the value
+ * @retval TVK_NO_STORE        the handle is NULL or has no store
+ * @retval TVK_BAD_KEY         the key is longer than TVK_MAX_KEY bytes
+ * @retval TVK_BAD_VALUE       the value is longer than TVK_MAX_VALUE bytes
+ * @retval TVK_NULL            `key` or `value` is NULL and has a length
+ * @retval TVK_NO_TX           no transaction of this number is active
+ * @retval TVK_TOO_MANY_OPS    TVK_MAX_OPS operations of the transaction were answered
+ * @retval TVK_BUSY            `holder` has a lock that is in the way
+ * @retval TVK_TOO_MANY_LOCKS  the transaction holds TVK_MAX_LOCKS locks, and none of them covers the key
+ * @retval TVK_NO_MEMORY       memory was refused
+ */
+tvk_status tvk_set(tvk_store *store, uint64_t tx, const void *key, size_t key_length, const void *value,
+                   size_t value_length, uint64_t *holder) TVK_MUST_USE;
+
 /** Takes a record away. Its key is locked, exclusive.
  *
  * @param[in,out] store   the store
@@ -374,6 +398,34 @@ tvk_status tvk_replace(tvk_store *store, uint64_t tx, const void *key, size_t ke
  * @retval TVK_ABSENT          the key had no record
  */
 tvk_status tvk_delete(tvk_store *store, uint64_t tx, const void *key, size_t key_length, uint64_t *holder) TVK_MUST_USE;
+
+/** Takes the first records of a range away, by rising key: as many as there are, at most `limit`. The whole range is locked,
+ * exclusive. It is one operation, however many go.
+ *
+ * @param[in,out] store   the store
+ * @param tx              the transaction
+ * @param[in] lo          the least key of the range: NULL where it has no bytes
+ * @param lo_length       how many bytes it has
+ * @param[in] hi          the greatest key of the range
+ * @param hi_length       how many bytes it has
+ * @param limit           1 to TVK_MAX_ROWS
+ * @param[out] told       how many records went, or the transaction that is in the way, or 0; NULL where it isn't wanted. Fewer than
+ *                        `limit` are all that there were
+ *
+ * @retval TVK_OK              `told` records went
+ * @retval TVK_NO_STORE        the handle is NULL or has no store
+ * @retval TVK_BAD_KEY         a key is longer than TVK_MAX_KEY bytes
+ * @retval TVK_NULL            a key is NULL and has a length
+ * @retval TVK_BAD_LIMIT       `limit` is out of bounds
+ * @retval TVK_BAD_RANGE       `lo` is above `hi`
+ * @retval TVK_NO_TX           no transaction of this number is active
+ * @retval TVK_TOO_MANY_OPS    TVK_MAX_OPS operations of the transaction were answered
+ * @retval TVK_BUSY            `told` has a lock that is in the way
+ * @retval TVK_TOO_MANY_LOCKS  the transaction holds TVK_MAX_LOCKS locks, and none of them covers the range
+ * @retval TVK_NO_MEMORY       memory was refused
+ */
+tvk_status tvk_delete_range(tvk_store *store, uint64_t tx, const void *lo, size_t lo_length, const void *hi,
+                            size_t hi_length, uint64_t limit, uint64_t *told) TVK_MUST_USE;
 
 /** Adds records as a new run, all of them or none. They can be read at once; merging brings them to their place later, where
  * they are read. The range from the first key to the last is locked, exclusive.
@@ -503,6 +555,115 @@ tvk_status tvk_load_structs(tvk_store *store, uint64_t tx, const void *structs, 
 tvk_status tvk_load_text(tvk_store *store, uint64_t tx, const void *text, size_t length, tvk_key *key, uint64_t *line,
                          uint64_t *loaded, uint64_t *holder) TVK_MUST_USE;
 
+/** Sets records, which rise strictly by key, all of them or none: each whose key has a record gets its value there, and the others
+ * make a new run, as by tvk_load. The range from the first key to the last is locked, exclusive. It is one operation.
+ *
+ * @param[in,out] store   the store
+ * @param tx              the transaction
+ * @param[in] records     the records
+ * @param number          how many they are
+ * @param[out] holder     the transaction that is in the way, or 0; NULL where it isn't wanted
+ *
+ * @retval TVK_OK              the records are set
+ * @retval TVK_NO_STORE        the handle is NULL or has no store
+ * @retval TVK_NULL            `records` is NULL, and `number` isn't 0
+ * @retval TVK_BAD_KEY         a key is longer than TVK_MAX_KEY bytes
+ * @retval TVK_BAD_VALUE       a value is longer than TVK_MAX_VALUE bytes
+ * @retval TVK_NO_TX           no transaction of this number is active
+ * @retval TVK_TOO_MANY_OPS    TVK_MAX_OPS operations of the transaction were answered
+ * @retval TVK_NOT_RISING      the records don't rise strictly by key, or there are none
+ * @retval TVK_TOO_MANY_RUNS   TVK_MAX_RUNS runs have entries, or 4,294,967,294 were made
+ * @retval TVK_BUSY            `holder` has a lock that is in the way
+ * @retval TVK_TOO_MANY_LOCKS  the transaction holds TVK_MAX_LOCKS locks, and none of them covers the range
+ * @retval TVK_NO_MEMORY       memory was refused
+ */
+tvk_status tvk_put(tvk_store *store, uint64_t tx, const tvk_record *records, size_t number, uint64_t *holder) TVK_MUST_USE;
+
+/** Sets records in any order: the first 65,536 of them are sorted and put, then the next 65,536, and so on, each as by tvk_put,
+ * until one is refused. What was put before stays, as by tvk_load_sorting.
+ *
+ * @param[in,out] store   the store
+ * @param tx              the transaction
+ * @param[in] records     the records
+ * @param number          how many they are
+ * @param[out] key        where the status is TVK_TWICE, the least key that stands twice; NULL where it isn't wanted
+ * @param[out] done       how many records stand before those that were refused; NULL where it isn't wanted
+ * @param[out] holder     the transaction that is in the way, or 0; NULL where it isn't wanted
+ *
+ * @retval TVK_OK              the records are set
+ * @retval TVK_NO_STORE        the handle is NULL or has no store
+ * @retval TVK_NULL            `records` is NULL, and `number` isn't 0
+ * @retval TVK_BAD_KEY         a key is longer than TVK_MAX_KEY bytes; none is put
+ * @retval TVK_BAD_VALUE       a value is longer than TVK_MAX_VALUE bytes; none is put
+ * @retval TVK_TWICE           a key stands twice: `key`; none is put
+ * @retval TVK_NO_TX           no transaction of this number is active
+ * @retval TVK_TOO_MANY_OPS    TVK_MAX_OPS operations of the transaction were answered
+ * @retval TVK_NOT_RISING      there are no records
+ * @retval TVK_TOO_MANY_RUNS   TVK_MAX_RUNS runs have entries, or 4,294,967,294 were made
+ * @retval TVK_BUSY            `holder` has a lock that is in the way
+ * @retval TVK_TOO_MANY_LOCKS  the transaction holds TVK_MAX_LOCKS locks, and none of them covers the range
+ * @retval TVK_NO_MEMORY       memory was refused, as of tvk_load_sorting
+ */
+tvk_status tvk_put_sorting(tvk_store *store, uint64_t tx, const tvk_record *records, size_t number, tvk_key *key,
+                           uint64_t *done, uint64_t *holder) TVK_MUST_USE;
+
+/** Sets the records of an array of structs, as tvk_put_sorting does, each with its key and its value as of tvk_load_structs.
+ *
+ * @param[in,out] store   the store
+ * @param tx              the transaction
+ * @param[in] structs     the structs, one behind another
+ * @param number          how many they are
+ * @param[in] layout      where each has its key and its value
+ * @param[out] key        as of tvk_put_sorting
+ * @param[out] done       as of tvk_put_sorting
+ * @param[out] holder     the transaction that is in the way, or 0; NULL where it isn't wanted
+ *
+ * @retval TVK_OK              the records are set
+ * @retval TVK_NO_STORE        the handle is NULL or has no store
+ * @retval TVK_NULL            `structs` is NULL, and `number` isn't 0, or `layout` is NULL
+ * @retval TVK_BAD_KEY         a key is longer than TVK_MAX_KEY bytes, or doesn't lie within its struct; none is put
+ * @retval TVK_BAD_VALUE       a value is longer than TVK_MAX_VALUE bytes, or doesn't lie within its struct; none is put
+ * @retval TVK_TWICE           a key stands twice: `key`; none is put
+ * @retval TVK_NO_TX           no transaction of this number is active
+ * @retval TVK_TOO_MANY_OPS    TVK_MAX_OPS operations of the transaction were answered
+ * @retval TVK_NOT_RISING      there are no structs
+ * @retval TVK_TOO_MANY_RUNS   TVK_MAX_RUNS runs have entries, or 4,294,967,294 were made
+ * @retval TVK_BUSY            `holder` has a lock that is in the way
+ * @retval TVK_TOO_MANY_LOCKS  the transaction holds TVK_MAX_LOCKS locks, and none of them covers the range
+ * @retval TVK_NO_MEMORY       memory was refused, as of tvk_load_structs
+ */
+tvk_status tvk_put_structs(tvk_store *store, uint64_t tx, const void *structs, size_t number, const tvk_layout *layout,
+                           tvk_key *key, uint64_t *done, uint64_t *holder) TVK_MUST_USE;
+
+/** Sets the records of a text, as tvk_put_sorting does, whose lines are those of tvk_load_text.
+ *
+ * @param[in,out] store   the store
+ * @param tx              the transaction
+ * @param[in] text        the text: NULL where it has no bytes
+ * @param length          how many bytes it has
+ * @param[out] key        as of tvk_put_sorting
+ * @param[out] line       as of tvk_load_text
+ * @param[out] done       as of tvk_put_sorting
+ * @param[out] holder     the transaction that is in the way, or 0; NULL where it isn't wanted
+ *
+ * @retval TVK_OK              the records are set
+ * @retval TVK_NO_STORE        the handle is NULL or has no store
+ * @retval TVK_NULL            `text` is NULL, and `length` isn't 0
+ * @retval TVK_BAD_LINE        `line` has no TAB; none is put
+ * @retval TVK_BAD_KEY         the key of `line` is longer than TVK_MAX_KEY bytes; none is put
+ * @retval TVK_BAD_VALUE       the value of `line` is longer than TVK_MAX_VALUE bytes; none is put
+ * @retval TVK_TWICE           a key stands twice: `key`; none is put
+ * @retval TVK_NO_TX           no transaction of this number is active
+ * @retval TVK_TOO_MANY_OPS    TVK_MAX_OPS operations of the transaction were answered
+ * @retval TVK_NOT_RISING      the text is empty
+ * @retval TVK_TOO_MANY_RUNS   TVK_MAX_RUNS runs have entries, or 4,294,967,294 were made
+ * @retval TVK_BUSY            `holder` has a lock that is in the way
+ * @retval TVK_TOO_MANY_LOCKS  the transaction holds TVK_MAX_LOCKS locks, and none of them covers the range
+ * @retval TVK_NO_MEMORY       memory was refused, as of tvk_load_text
+ */
+tvk_status tvk_put_text(tvk_store *store, uint64_t tx, const void *text, size_t length, tvk_key *key, uint64_t *line,
+                        uint64_t *done, uint64_t *holder) TVK_MUST_USE;
+
 /** Reads the first records of a range by rising key: as many as there are, at most `limit`. The whole range is locked, shared.
  *
  * @param[in,out] store   the store
@@ -557,6 +718,62 @@ tvk_status tvk_scan(tvk_store *store, uint64_t tx, const void *lo, size_t lo_len
  */
 tvk_status tvk_scan_behind(tvk_store *store, uint64_t tx, const void *key, size_t key_length, const void *hi,
                            size_t hi_length, tvk_record *rows, size_t limit, uint64_t *told) TVK_MUST_USE;
+
+/** Reads the last records of a range, from the highest key down: as many as there are, at most `limit`. The whole range is locked,
+ * shared.
+ *
+ * @param[in,out] store   the store
+ * @param tx              the transaction
+ * @param[in] lo          the least key of the range: NULL where it has no bytes
+ * @param lo_length       how many bytes it has
+ * @param[in] hi          the greatest key of the range
+ * @param hi_length       how many bytes it has
+ * @param[out] rows       room for `limit` records
+ * @param limit           1 to TVK_MAX_ROWS
+ * @param[out] told       how many records went to `rows`, or the transaction that is in the way, or 0
+ *
+ * @retval TVK_OK              `told` records are read
+ * @retval TVK_NO_STORE        the handle is NULL or has no store
+ * @retval TVK_BAD_KEY         a key is longer than TVK_MAX_KEY bytes
+ * @retval TVK_NULL            `rows` is NULL, or a key is and has a length
+ * @retval TVK_BAD_LIMIT       `limit` is out of bounds
+ * @retval TVK_BAD_RANGE       `lo` is above `hi`
+ * @retval TVK_NO_TX           no transaction of this number is active
+ * @retval TVK_TOO_MANY_OPS    TVK_MAX_OPS operations of the transaction were answered
+ * @retval TVK_BUSY            `told` has a lock that is in the way
+ * @retval TVK_TOO_MANY_LOCKS  the transaction holds TVK_MAX_LOCKS locks, and none of them covers the range
+ * @retval TVK_NO_MEMORY       memory was refused
+ */
+tvk_status tvk_scan_back(tvk_store *store, uint64_t tx, const void *lo, size_t lo_length, const void *hi, size_t hi_length,
+                         tvk_record *rows, size_t limit, uint64_t *told) TVK_MUST_USE;
+
+/** Goes on with a scan back: reads the last records before `key`, the last key of the rows before, from the highest key down. The
+ * range from `lo` to `key` is locked, shared.
+ *
+ * @param[in,out] store   the store
+ * @param tx              the transaction
+ * @param[in] lo          the least key of the range: NULL where it has no bytes
+ * @param lo_length       how many bytes it has
+ * @param[in] key         the key that the records are before
+ * @param key_length      how many bytes it has
+ * @param[out] rows       room for `limit` records
+ * @param limit           1 to TVK_MAX_ROWS - 1
+ * @param[out] told       how many records went to `rows`, or the transaction that is in the way, or 0
+ *
+ * @retval TVK_OK              `told` records are read
+ * @retval TVK_NO_STORE        the handle is NULL or has no store
+ * @retval TVK_BAD_KEY         a key is longer than TVK_MAX_KEY bytes
+ * @retval TVK_NULL            `rows` is NULL, or a key is and has a length
+ * @retval TVK_BAD_LIMIT       `limit` is out of bounds
+ * @retval TVK_BAD_RANGE       `lo` is above `key`
+ * @retval TVK_NO_TX           no transaction of this number is active
+ * @retval TVK_TOO_MANY_OPS    TVK_MAX_OPS operations of the transaction were answered
+ * @retval TVK_BUSY            `told` has a lock that is in the way
+ * @retval TVK_TOO_MANY_LOCKS  the transaction holds TVK_MAX_LOCKS locks, and none of them covers the range
+ * @retval TVK_NO_MEMORY       memory was refused
+ */
+tvk_status tvk_scan_before(tvk_store *store, uint64_t tx, const void *lo, size_t lo_length, const void *key,
+                           size_t key_length, tvk_record *rows, size_t limit, uint64_t *told) TVK_MUST_USE;
 
 /** Locks a range, absent keys too.
  *

@@ -172,7 +172,8 @@ inline bool is_below(const tvk_record &one, const tvk_record &other) noexcept { 
 
 }  // namespace detail
 
-/* The records of a range, read as they are asked for, once: 100 at first, and twice as many each time after. */
+/* The records of a range, read as they are asked for, once, from one of its ends: 100 at first, and twice as many each time
+ * after. */
 class Rows {
 public:
     class iterator {
@@ -209,7 +210,7 @@ public:
     };
 
     iterator begin() {
-        if (!is_begun_) read(tvk_scan);
+        if (!is_begun_) read(is_back_ ? tvk_scan_back : tvk_scan);
         return iterator(this);
     }
 
@@ -218,8 +219,8 @@ public:
 private:
     friend class Transaction;
 
-    Rows(std::shared_ptr<tvk_store> store, std::uint64_t number, std::string_view lo, std::string_view hi)
-        : store_(std::move(store)), number_(number), lo_(lo), hi_(hi) {}
+    Rows(std::shared_ptr<tvk_store> store, std::uint64_t number, std::string_view lo, std::string_view hi, bool is_back)
+        : store_(std::move(store)), number_(number), lo_(lo), hi_(hi), is_back_(is_back) {}
 
     template <class Scan> void read(Scan scan) {
         std::uint64_t told = 0;
@@ -234,9 +235,9 @@ private:
 
     void advance() {
         if (++at_ < page_.size() || page_.size() < size_) return;
-        lo_ = detail::view(page_.back().key);
+        (is_back_ ? hi_ : lo_) = detail::view(page_.back().key);
         size_ = std::min<std::size_t>(2 * size_, TVK_MAX_ROWS - 1);
-        read(tvk_scan_behind);
+        read(is_back_ ? tvk_scan_before : tvk_scan_behind);
     }
 
     std::shared_ptr<tvk_store> store_;
@@ -244,7 +245,7 @@ private:
     std::string lo_, hi_;
     std::vector<tvk_record> page_;
     std::size_t at_ = 0, size_ = 100;
-    bool is_begun_ = false;
+    bool is_back_, is_begun_ = false;
 };
 
 /* A transaction, by Store::transaction. It is aborted at the end of its scope, unless it ended before. */
@@ -313,9 +314,10 @@ public:
     }
 
     /* Sets the value under the key, whether it has one or not. */
-    void put(std::string_view key, std::string_view value) {
-        if (!write(tvk_replace, key, value)) write(tvk_insert, key, value);
-    }
+    void set(std::string_view key, std::string_view value) { write(tvk_set, key, value); }
+
+    /* The same by another name. */
+    void put(std::string_view key, std::string_view value) { set(key, value); }
 
     /* Takes the record away, and tells whether there was one. */
     bool erase(std::string_view key) {
@@ -324,21 +326,24 @@ public:
         return is_done(status, told, key);
     }
 
+    /* Takes the records from `lo` to `hi` away, both included, the first `most` of them, and tells how many went. The range is
+     * locked. Each thousand is an operation. */
+    std::uint64_t erase(std::string_view lo, std::string_view hi, std::uint64_t most = UINT64_MAX) {
+        std::uint64_t count = 0, told = TVK_MAX_ROWS;
+        while (count < most && told == TVK_MAX_ROWS) {
+            std::uint64_t limit = std::min<std::uint64_t>(most - count, TVK_MAX_ROWS);
+            tvk_status status = tvk_delete_range(store_.get(), number_, lo.data(), lo.size(), hi.data(), hi.size(), limit, &told);
+            check(status, told, detail::longer(lo, hi));
+            count += told;
+        }
+        return count;
+    }
+
     /* Adds pairs of keys and values, in any order, cut into runs, each sorted and added as a whole; tells how many they are.
      * The run that is refused isn't added, and those before it stay. Each run is locked, and all keys are where there are more
      * than 255. */
     template <class Iterator> std::uint64_t load(Iterator first, Iterator last, std::size_t run = RUN) {
-        std::vector<tvk_record> piece;
-        std::uint64_t count = 0, runs = 0;
-        if (run == 0) throw Error(TVK_BAD_LIMIT, "a run of no records");
-        for (; first != last; ++first) {
-            const auto &[key, value] = *first;
-            tvk_record &record = piece.emplace_back();
-            detail::fill(record.key, key, TVK_BAD_KEY);
-            detail::fill(record.value, value, TVK_BAD_VALUE);
-            if (piece.size() == run) count += load_run(piece, runs++);
-        }
-        return piece.empty() ? count : count + load_run(piece, runs);
+        return bring(first, last, run, tvk_load);
     }
 
     template <class Pairs> std::uint64_t load(Pairs &&pairs, std::size_t run = RUN) {
@@ -349,13 +354,7 @@ public:
      * and nothing is added then. No pairs at all are refused, as TVK_NOT_RISING. `loaded` is told how many records were added
      * before a run that is refused. */
     template <class Iterator> std::uint64_t load_sorting(Iterator first, Iterator last, std::uint64_t *loaded = nullptr) {
-        std::vector<tvk_record> records;
-        for (; first != last; ++first) {
-            const auto &[key, value] = *first;
-            tvk_record &record = records.emplace_back();
-            detail::fill(record.key, key, TVK_BAD_KEY);
-            detail::fill(record.value, value, TVK_BAD_VALUE);
-        }
+        std::vector<tvk_record> records = copied(first, last);
         return load_all(records.size(), loaded, [&](tvk_key *key, std::uint64_t *, std::uint64_t *count, std::uint64_t *told) {
             return tvk_load_sorting(store_.get(), number_, records.data(), records.size(), key, count, told);
         });
@@ -377,15 +376,46 @@ public:
     /* The same of a text, whose lines have a key, a TAB and a value each; the last one may lack its LF. A line that is no record
      * throws BadLine, and nothing is added then. */
     std::uint64_t load_text(std::string_view text, std::uint64_t *loaded = nullptr) {
-        auto lines = static_cast<std::size_t>(std::count(text.begin(), text.end(), '\n')) + 1;
-        return load_all(lines, loaded, [&](tvk_key *key, std::uint64_t *line, std::uint64_t *count, std::uint64_t *told) {
+        return load_all(lines_of(text), loaded, [&](tvk_key *key, std::uint64_t *line, std::uint64_t *count, std::uint64_t *told) {
             return tvk_load_text(store_.get(), number_, text.data(), text.size(), key, line, count, told);
+        });
+    }
+
+    /* Sets the values under keys, in any order, whether they have one or not: pairs are cut into pieces, each sorted and put as a
+     * whole, where what has no record makes a run; tells how many they are. The piece that is refused isn't put, and those before
+     * it stay. A key that stands twice in a piece is refused, as TVK_NOT_RISING. */
+    template <class Pairs> std::uint64_t put(Pairs &&pairs, std::size_t run = RUN) {
+        return bring(std::begin(pairs), std::end(pairs), run, put_piece);
+    }
+
+    /* The same by the library's own sort, in pieces of RUN; `done` is told how many records were put before a piece that is
+     * refused. What is wrong is told as by load_sorting, load_structs and load_text. */
+    template <class Pairs> std::uint64_t put_sorting(Pairs &&pairs, std::uint64_t *done = nullptr) {
+        std::vector<tvk_record> records = copied(std::begin(pairs), std::end(pairs));
+        return load_all(records.size(), done, [&](tvk_key *key, std::uint64_t *, std::uint64_t *count, std::uint64_t *told) {
+            return tvk_put_sorting(store_.get(), number_, records.data(), records.size(), key, count, told);
+        });
+    }
+
+    template <class Struct>
+    std::uint64_t put_structs(const Struct *structs, std::size_t number, const tvk_layout &layout, std::uint64_t *done = nullptr) {
+        return load_all(number, done, [&](tvk_key *key, std::uint64_t *, std::uint64_t *count, std::uint64_t *told) {
+            return tvk_put_structs(store_.get(), number_, structs, number, &layout, key, count, told);
+        });
+    }
+
+    std::uint64_t put_text(std::string_view text, std::uint64_t *done = nullptr) {
+        return load_all(lines_of(text), done, [&](tvk_key *key, std::uint64_t *line, std::uint64_t *count, std::uint64_t *told) {
+            return tvk_put_text(store_.get(), number_, text.data(), text.size(), key, line, count, told);
         });
     }
 
     /* The records from `lo` to `hi`, both included, by rising key. They are read while they are walked through, and each time
      * the range from the next key to `hi` is locked. */
-    Rows scan(std::string_view lo = {}, std::string_view hi = GREATEST) const { return Rows(store_, number_, lo, hi); }
+    Rows scan(std::string_view lo = {}, std::string_view hi = GREATEST) const { return Rows(store_, number_, lo, hi, false); }
+
+    /* The same from `hi` down to `lo`. Each time the range from `lo` to the next key is locked. */
+    Rows scan_back(std::string_view lo = {}, std::string_view hi = GREATEST) const { return Rows(store_, number_, lo, hi, true); }
 
     /* Locks a range, absent keys too. */
     void lock(tvk_mode mode, std::string_view lo = {}, std::string_view hi = GREATEST) {
@@ -436,13 +466,47 @@ private:
         return count;
     }
 
-    std::uint64_t load_run(std::vector<tvk_record> &piece, std::uint64_t before) {
+    static tvk_status put_piece(tvk_store *store, std::uint64_t tx, const tvk_record *records, std::size_t number, tvk_key *,
+                                std::uint64_t *holder) {
+        return tvk_put(store, tx, records, number, holder);
+    }
+
+    static std::size_t lines_of(std::string_view text) {
+        return static_cast<std::size_t>(std::count(text.begin(), text.end(), '\n')) + 1;
+    }
+
+    template <class Iterator> static std::vector<tvk_record> copied(Iterator first, Iterator last) {
+        std::vector<tvk_record> records;
+        for (; first != last; ++first) copy(records, *first);
+        return records;
+    }
+
+    template <class Pair> static void copy(std::vector<tvk_record> &records, const Pair &pair) {
+        const auto &[key, value] = pair;
+        tvk_record &record = records.emplace_back();
+        detail::fill(record.key, key, TVK_BAD_KEY);
+        detail::fill(record.value, value, TVK_BAD_VALUE);
+    }
+
+    /* Pairs in pieces, each brought in by a call. */
+    template <class Iterator, class Call> std::uint64_t bring(Iterator first, Iterator last, std::size_t run, Call call) {
+        std::vector<tvk_record> piece;
+        std::uint64_t count = 0, runs = 0;
+        if (run == 0) throw Error(TVK_BAD_LIMIT, "a run of no records");
+        for (; first != last; ++first) {
+            copy(piece, *first);
+            if (piece.size() == run) count += bring_run(piece, runs++, call);
+        }
+        return piece.empty() ? count : count + bring_run(piece, runs, call);
+    }
+
+    template <class Call> std::uint64_t bring_run(std::vector<tvk_record> &piece, std::uint64_t before, Call call) {
         if (before == TVK_MAX_LOCKS - 1) lock(TVK_EXCLUSIVE);
         std::sort(piece.begin(), piece.end(), detail::is_below);
         tvk_key exists;
         exists.length = 0;
         std::uint64_t told = 0, count = piece.size();
-        tvk_status status = tvk_load(store_.get(), number_, piece.data(), piece.size(), &exists, &told);
+        tvk_status status = call(store_.get(), number_, piece.data(), piece.size(), &exists, &told);
         if (status == TVK_NOT_RISING) throw Error(status, first_double(piece));
         check(status, told, detail::view(exists));
         piece.clear();

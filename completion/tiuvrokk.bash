@@ -11,7 +11,7 @@ _tiuvrokk_words() {
         esac
         ;;
     amaudit) echo '--records --open --help --version' ;;
-    amload) echo '--run --skip-empty --skip --escape --key-bytes --value-bytes --port --socket --wait --hold --tries --help --version' ;;
+    amload) echo '--run --update --skip-empty --skip --escape --key-bytes --value-bytes --port --socket --wait --hold --tries --help --version' ;;
     amdump) echo '--escape --port --socket --wait --hold --tries --help --version' ;;
     amcli) echo '--port --socket --wait --store --escape --raw --strict --history --help --version' ;;
     amdraw) echo '--text --help --version' ;;

@@ -126,6 +126,44 @@ def many(store: Store) -> None:
         wanted("a value that was written behind its page", seen[4], b"changed")
 
 
+def back_and_away(store: Store) -> None:
+    """Reads from the highest key down, reads with a limit, and ranges that go."""
+    rows = [(b"k%05d" % number, b"%d" % number) for number in range(2500)]
+    with store.transaction() as tx:
+        tx.load(rows, run=700)
+        tx["k00007"] = "set"
+        tx["k02500"] = "set"
+    rows[7:8], rows[2500:] = [(b"k00007", b"set")], [(b"k02500", b"set")]
+    with store.transaction() as tx:
+        wanted("back", (list(tx.scan(reverse=True)), list(reversed(tx))), (rows[::-1], [key for key, _ in rows[::-1]]))
+        for limit, page in ((0, 1), (1, 100), (5, 2), (100, 100), (999, 999), (1000, 999), (2500, 7), (9999, 100)):
+            found = [list(tx.scan("k00001", "k02499", page, limit=limit, reverse=is_back)) for is_back in (False, True)]
+            wanted("a limit", found, [rows[1:2500][:limit], rows[1:2500][::-1][:limit]])
+        wanted("a range of one key", list(tx.scan("k00009", "k00009", reverse=True)), rows[9:10])
+        wanted("an empty range", (list(tx.scan("l", reverse=True)), tx.delete_range("l")), ([], 0))
+        tx.mark()
+        counts = [tx.delete_range("k00010", "k00019", 3), tx.delete_range("k00010", "k00019"), tx.delete_range("k00010", "k00019")]
+        wanted("what went", (counts, tx.delete_range(limit=0), list(tx.scan(limit=11))[-1]), ([3, 7, 0], 0, rows[20]))
+        tx.__delitem__(slice("k00020", "k00030"))
+        tx.__delitem__(slice("k00030", "k00030"))
+        tx.__delitem__(slice("k02400", None))
+        wanted("what slices left", list(tx.scan()), rows[:10] + rows[30:2400])
+        wanted("all go", (tx.delete_range(), list(tx.scan(reverse=True))), (2380, []))
+        tx.back()
+        wanted("what was taken back", list(tx.scan()), rows)
+        for call in (lambda: tx.delete_range("b", "a"), lambda: tx.scan("b", "a", reverse=True), lambda: tx.scan(page=1000, limit=1)):
+            raised(tiuvrokk.Bad, call)
+        for call in (lambda: tx.delete_range(limit=-1), lambda: tx.scan(limit=-1)):
+            raised(ValueError, call)
+        for odd in (4.5, "1", [1]):
+            raised(TypeError, lambda: tx.delete_range(limit=odd), repr(odd))
+            raised(TypeError, lambda: tx.scan(limit=odd), repr(odd))
+        for odd in (4.5, [1], None):
+            raised(TypeError, lambda: tx.delete_range(odd), repr(odd))
+        tx.__delitem__(slice(None, None))
+        wanted("a slice of all", len(tx), 0)
+
+
 def text(dice: random.Random, most: int) -> bytes:
     return "".join(dice.choices("ab~", k=dice.randrange(1, most))).encode()
 
@@ -226,7 +264,7 @@ def emptied(connected: Callable[[], Any]) -> Iterator[Any]:
 
 def all_cases(fresh: Callable[[], Any], calls: int = 2000) -> None:
     """All of it; `fresh` gives a store that has no records, as the head of a `with` block."""
-    for case in (as_a_mapping, types_and_bounds, ends, many):
+    for case in (as_a_mapping, types_and_bounds, ends, many, back_and_away):
         with fresh() as store:
             case(store)
     with fresh() as store:

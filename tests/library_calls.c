@@ -220,17 +220,37 @@ static void test_write(transaction *tx, int kind) {
     record left = {kind != 2, any_value()};
     uint64_t told = 7, holder, *at = below(10) ? &told : NULL;
     tvk_status due = lock_due(tx, asked, &holder), got;
-    int is_there = seen(tx, key)->is_there, is_done = kind == 0 ? !is_there : is_there;
+    int is_there = seen(tx, key)->is_there, is_done = kind == 0 ? !is_there : is_there || kind == 3;
     const tvk_key *k = &keys[key];
     if (kind == 0)
         got = tvk_insert(&store, tx->number, k->bytes, k->length, left.value.bytes, left.value.length, at);
     else if (kind == 1)
         got = tvk_replace(&store, tx->number, k->bytes, k->length, left.value.bytes, left.value.length, at);
+    else if (kind == 3)
+        got = tvk_set(&store, tx->number, k->bytes, k->length, left.value.bytes, left.value.length, at);
     else
         got = tvk_delete(&store, tx->number, k->bytes, k->length, at);
     if (!is_answer(got, due ? due : is_done ? TVK_OK : kind == 0 ? TVK_EXISTS : TVK_ABSENT, at ? told : holder, holder) || due) return;
     grant(tx, asked);
     if (is_done) put(tx, key, left);
+}
+
+static void test_delete_range(transaction *tx) {
+    int lo = below(KEYS), hi = lo + below(below(16) ? 4 : KEYS), limit = 1 + below(below(4) ? 4 : TVK_MAX_ROWS);
+    if (hi >= KEYS) hi = KEYS - 1;
+    lock asked = {lo, hi, 1};
+    uint64_t told = 7, holder, number = 0;
+    tvk_status due = lock_due(tx, asked, &holder);
+    tvk_status got = tvk_delete_range(&store, tx->number, keys[lo].bytes, keys[lo].length, keys[hi].bytes, keys[hi].length,
+                                      (uint64_t)limit, &told);
+    for (int key = lo; !due && key <= hi && number < (uint64_t)limit; key++) number += seen(tx, key)->is_there != 0;
+    if (!is_answer(got, due, told, due ? holder : number) || due) return;
+    grant(tx, asked);
+    for (int key = lo; number; key++)
+        if (seen(tx, key)->is_there) {
+            put(tx, key, (record){0, {0, {0}}});
+            number--;
+        }
 }
 
 static void test_load(transaction *tx) {
@@ -315,15 +335,64 @@ static void test_load_sorting(transaction *tx) {
     for (int i = 0; i < number; i++) put(tx, chosen[i], (record){1, records[i].value});
 }
 
-static void test_scan(transaction *tx, int is_behind) {
+typedef tvk_status scan(tvk_store *, uint64_t, const void *, size_t, const void *, size_t, tvk_record *, size_t, uint64_t *);
+
+/* Records that are set: by rising key, in any order, or as a text. Those that are new make a run. */
+static void test_put(transaction *tx) {
+    int number = below(12), form = below(3), twice = KEYS, lo = KEYS, hi = -1, is_rising = number > 0, is_new = 0;
+    static tvk_record records[16];
+    static int chosen[16];
+    static char text[16 * (TVK_MAX_KEY + TVK_MAX_VALUE + 2)];
+    size_t length = 0;
+    uint64_t told = 7, done = 7, line = 7, holder = 0;
+    tvk_key found;
+    if (loads > 60000) return;
+    for (int i = 0, at = below(KEYS); i < number; i++, at += below(30) ? 1 + below(3) : 0) {
+        chosen[i] = form || at >= KEYS ? below(KEYS) : at;
+        records[i].key = keys[chosen[i]];
+        records[i].value = any_value();
+        for (size_t b = 0; b < records[i].value.length; b++) records[i].value.bytes[b] |= (uint8_t)' ';
+        length += (size_t)sprintf(text + length, "%.*s\t", (int)records[i].key.length, (char *)records[i].key.bytes);
+        memcpy(text + length, records[i].value.bytes, records[i].value.length);
+        length += records[i].value.length;
+        text[length++] = '\n';
+        for (int j = 0; j < i; j++)
+            if (chosen[j] == chosen[i] && chosen[i] < twice) twice = chosen[i];
+        if (chosen[i] <= hi) is_rising = 0;
+        if (chosen[i] < lo) lo = chosen[i];
+        if (chosen[i] > hi) hi = chosen[i];
+        is_new |= !seen(tx, chosen[i])->is_there;
+    }
+    lock asked = {lo, hi, 1};
+    tvk_status due = form && twice < KEYS ? TVK_TWICE : refusal(tx), got;
+    if (!due) due = (form ? number > 0 : is_rising) ? lock_due(tx, asked, &holder) : TVK_NOT_RISING;
+    if (form == 0)
+        got = tvk_put(&store, tx->number, number ? records : NULL, (size_t)number, &told);
+    else if (form == 1)
+        got = tvk_put_sorting(&store, tx->number, number ? records : NULL, (size_t)number, &found, &done, &told);
+    else
+        got = tvk_put_text(&store, tx->number, number ? text : NULL, length, &found, &line, &done, &told);
+    if (form && done != (got ? 0 : (uint64_t)number)) fail("another number put");
+    if (!is_answer(got, due, told, holder)) return;
+    if (got == TVK_TWICE && memcmp(&found, &keys[twice], sizeof found)) fail("another key of a put");
+    if (due) return;
+    grant(tx, asked);
+    loads += (uint64_t)is_new;
+    for (int i = 0; i < number; i++) put(tx, chosen[i], (record){1, records[i].value});
+}
+
+/* One of the four scans: from an end of the range on, or behind the key that it begins with. */
+static void test_scan(transaction *tx, int is_behind, int is_back) {
+    static scan *const scans[2][2] = {{tvk_scan, tvk_scan_back}, {tvk_scan_behind, tvk_scan_before}};
     int lo = below(KEYS), hi = lo + below(below(16) ? 8 : KEYS), limit = 1 + below(below(4) ? 8 : TVK_MAX_ROWS - 1);
     if (hi >= KEYS) hi = KEYS - 1;
     lock asked = {lo, hi, 0};
     uint64_t told = 7, holder, number = 0;
     tvk_status due = lock_due(tx, asked, &holder);
-    tvk_status got = (is_behind ? tvk_scan_behind : tvk_scan)(&store, tx->number, keys[lo].bytes, keys[lo].length, keys[hi].bytes,
-                                                             keys[hi].length, rows, (size_t)limit, &told);
-    for (int key = lo + is_behind; !due && !got && key <= hi && number < (uint64_t)limit; key++) {
+    tvk_status got = scans[is_behind][is_back](&store, tx->number, keys[lo].bytes, keys[lo].length, keys[hi].bytes,
+                                               keys[hi].length, rows, (size_t)limit, &told);
+    for (int at = is_behind; !due && !got && lo + at <= hi && number < (uint64_t)limit; at++) {
+        int key = is_back ? hi - at : lo + at;
         record *was = seen(tx, key);
         if (!was->is_there) continue;
         if (memcmp(&rows[number].key, &keys[key], sizeof *keys) || !is_same(&rows[number].value, &was->value)) fail("another row");
@@ -393,6 +462,26 @@ static void test_bad_use(void) {
     EXPECT(TVK_NULL, tvk_load(&store, tx, NULL, 1, NULL, NULL));
     EXPECT(TVK_NULL, tvk_scan(&store, tx, "a", 1, "b", 1, NULL, 1, &told));
     EXPECT(TVK_NULL, tvk_scan_behind(&store, tx, "a", 1, "b", 1, NULL, 1, &told));
+    EXPECT(TVK_NO_STORE, tvk_set(&closed, 1, NULL, 1, NULL, 1, NULL));
+    EXPECT(TVK_NO_STORE, tvk_scan_back(&closed, 0, "b", 1, "a", 1, NULL, 0, NULL));
+    EXPECT(TVK_NO_STORE, tvk_scan_before(NULL, 0, "b", 1, "a", 1, NULL, 0, NULL));
+    EXPECT(TVK_NO_STORE, tvk_delete_range(&closed, 0, "b", 1, "a", 1, 0, NULL));
+    EXPECT(TVK_NULL, tvk_set(&store, tx, "a", 1, NULL, 1, NULL));
+    EXPECT(TVK_NULL, tvk_scan_back(&store, tx, "a", 1, "b", 1, NULL, 1, &told));
+    EXPECT(TVK_NULL, tvk_scan_before(&store, tx, "b", 1, "a", 1, NULL, 0, &told));
+    EXPECT(TVK_NULL, tvk_delete_range(&store, tx, NULL, 1, "b", 1, 1, &told));
+    EXPECT(TVK_BAD_KEY, tvk_set(&store, tx, keys, TVK_MAX_KEY + 1, NULL, 1, NULL));
+    EXPECT(TVK_BAD_VALUE, tvk_set(&store, tx, "a", 1, keys, TVK_MAX_VALUE + 1, NULL));
+    EXPECT(TVK_BAD_KEY, tvk_delete_range(&store, tx, "a", 1, keys, TVK_MAX_KEY + 1, 0, &told));
+    EXPECT(TVK_BAD_LIMIT, tvk_delete_range(&store, tx, "b", 1, "a", 1, 0, &told));
+    EXPECT(TVK_BAD_LIMIT, tvk_delete_range(&store, tx, "b", 1, "a", 1, TVK_MAX_ROWS + 1, &told));
+    EXPECT(TVK_BAD_LIMIT, tvk_scan_back(&store, tx, "b", 1, "a", 1, rows, TVK_MAX_ROWS + 1, &told));
+    EXPECT(TVK_BAD_LIMIT, tvk_scan_before(&store, tx, "b", 1, "a", 1, rows, TVK_MAX_ROWS, &told));
+    EXPECT(TVK_BAD_RANGE, tvk_delete_range(&store, tx, "b", 1, "a", 1, TVK_MAX_ROWS, &told));
+    EXPECT(TVK_BAD_RANGE, tvk_scan_back(&store, tx, "b", 1, "a", 1, rows, TVK_MAX_ROWS, &told));
+    EXPECT(TVK_BAD_RANGE, tvk_scan_before(&store, tx, "b", 1, "a", 1, rows, TVK_MAX_ROWS - 1, &told));
+    EXPECT(TVK_NO_TX, tvk_set(&store, tx, "a", 1, "", 0, NULL));
+    EXPECT(TVK_NO_TX, tvk_delete_range(&store, tx, NULL, 0, "a", 1, 1, NULL));
     EXPECT(TVK_BAD_KEY, tvk_get(&store, tx, keys, TVK_MAX_KEY + 1, &value, NULL));
     EXPECT(TVK_BAD_KEY, tvk_delete(&store, tx, keys, (size_t)-1, NULL));
     EXPECT(TVK_BAD_VALUE, tvk_insert(&store, tx, "a", 1, keys, TVK_MAX_VALUE + 1, NULL));
@@ -425,6 +514,19 @@ static void test_bad_use(void) {
     rows[1].value.length = TVK_MAX_VALUE + 1;
     EXPECT(TVK_BAD_VALUE, tvk_load(&store, tx, rows, 2, NULL, NULL));
     EXPECT(TVK_BAD_VALUE, tvk_load_sorting(&store, tx, rows, 2, NULL, NULL, NULL));
+    EXPECT(TVK_BAD_VALUE, tvk_put(&store, tx, rows, 2, NULL));
+    EXPECT(TVK_BAD_VALUE, tvk_put_sorting(&store, tx, rows, 2, NULL, NULL, NULL));
+    EXPECT(TVK_NO_STORE, tvk_put(&closed, tx, NULL, 1, NULL));
+    EXPECT(TVK_NULL, tvk_put(&store, tx, NULL, 1, NULL));
+    EXPECT(TVK_NO_TX, tvk_put(&store, tx, NULL, 0, NULL));
+    EXPECT(TVK_NO_STORE, tvk_put_sorting(&closed, tx, NULL, 1, NULL, NULL, NULL));
+    EXPECT(TVK_NULL, tvk_put_sorting(&store, tx, NULL, 1, NULL, NULL, NULL));
+    EXPECT(TVK_NO_TX, tvk_put_sorting(&store, tx, NULL, 0, NULL, NULL, NULL));
+    EXPECT(TVK_NO_STORE, tvk_put_structs(&closed, tx, NULL, 1, NULL, NULL, NULL, NULL));
+    EXPECT(TVK_NULL, tvk_put_structs(&store, tx, rows, 0, NULL, NULL, NULL, NULL));
+    EXPECT(TVK_NO_STORE, tvk_put_text(&closed, tx, NULL, 1, NULL, NULL, NULL, NULL));
+    EXPECT(TVK_NULL, tvk_put_text(&store, tx, NULL, 1, NULL, NULL, NULL, NULL));
+    EXPECT(TVK_BAD_LINE, tvk_put_text(&store, tx, "a", 1, NULL, NULL, NULL, NULL));
     EXPECT(TVK_NO_STORE, tvk_load_sorting(&closed, tx, NULL, 1, NULL, NULL, NULL));
     EXPECT(TVK_NULL, tvk_load_sorting(&store, tx, NULL, 1, NULL, NULL, NULL));
     EXPECT(TVK_NO_TX, tvk_load_sorting(&store, tx, NULL, 0, NULL, NULL, NULL));
@@ -483,11 +585,13 @@ static void test_any(void) {
     }
     int kind = below(100);
     if (kind < 22) test_get(tx);
-    else if (kind < 58) test_write(tx, kind % 3);
-    else if (kind < 70) test_scan(tx, 0);
-    else if (kind < 76) test_scan(tx, 1);
+    else if (kind < 56) test_write(tx, kind % 4);
+    else if (kind < 58) test_delete_range(tx);
+    else if (kind < 70) test_scan(tx, 0, kind % 2);
+    else if (kind < 76) test_scan(tx, 1, kind % 2);
     else if (kind < 78) test_load(tx);
     else if (kind < 79) test_load_sorting(tx);
+    else if (kind < 80) test_put(tx);
     else if (kind < 82) test_lock(tx);
     else if (kind < 85) test_mark(tx);
     else if (kind < 88) test_back(tx);
@@ -647,6 +751,23 @@ static void test_large_loads(void) {
         if (tvk_figures(&large, &figures) || figures.runs != 1 + more) fail("the runs of 65,536 structs, and of one more");
         end_large(tx, RUN + more);
     }
+
+    /* A put of each second one of them makes two runs, one of all another three, and the same again none. */
+    begin_large(&tx);
+    const tvk_layout half = {2 * sizeof *records, layout.key_at, layout.key_length, layout.value_at, layout.value_length};
+    tvk_figures_t figures;
+    uint64_t runs[3];
+    for (int put = 0; put < 3; put++) {
+        size_t number = put ? MANY : MANY / 2;
+        if (tvk_put_structs(&large, tx, records, number, put ? &layout : &half, NULL, &loaded, NULL) || loaded != number) fail("a large put");
+        if (tvk_figures(&large, &figures)) fail("the figures of a large put");
+        runs[put] = figures.runs;
+        for (int i = 0; i < MANY; i++) records[i].value.bytes[7] ^= 1;
+    }
+    for (int i = 0; i < MANY; i++) records[i].value.bytes[7] ^= 1;
+    if (runs[0] != 3 || runs[1] != 8 || runs[2] != 8) fail("the runs of large puts");
+    look_at_large(tx);
+    end_large(tx, MANY);
 
     begin_large(&tx);
     test_refused_run(tx);

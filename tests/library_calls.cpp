@@ -2,6 +2,7 @@
  * threads one at a time, and random transactions compared with a map: library_calls_cpp CALLS SEED */
 #include <cstdio>
 #include <cstdlib>
+#include <cstring>
 #include <functional>
 #include <map>
 #include <random>
@@ -152,6 +153,21 @@ static void loads_and_scans() {
     } catch (const tiuvrokk::Exists &exists) {
         expect(exists.key() == key_of(4), "the least key that is there");
     }
+    Transaction back_and_away = std::move(tx);
+    back_and_away.mark();
+    auto last = all.rbegin();
+    for (auto [key, value] : back_and_away.scan_back()) {
+        expect(key == last->first && value == last->second, "a scan back of all");
+        ++last;
+    }
+    expect(last == all.rend(), "the end of a scan back");
+    expect(back_and_away.erase(key_of(100), key_of(1199), 1001) == 1001 && back_and_away.erase(key_of(100), key_of(1199)) == 99, "ranges");
+    expect((*back_and_away.scan_back("", key_of(1199)).begin()).key == key_of(99), "what a range leaves");
+    expect(back_and_away.erase("", tiuvrokk::GREATEST) == 1900 && back_and_away.erase("", tiuvrokk::GREATEST) == 0, "the range of all");
+    back_and_away.back();
+    tx = std::move(back_and_away);
+    expect(thrown([&] { tx.erase("b", "a"); }) == TVK_BAD_RANGE, "a range that doesn't rise");
+    expect(thrown([&] { tx.scan_back("b", "a").begin(); }) == TVK_BAD_RANGE, "a range back that doesn't rise");
     tx.erase(key_of(7));
     tx.commit();
     expect(thrown([&] { for (auto record : tx.scan()) (void)record; }) == TVK_NO_TX, "a scan behind the commit");
@@ -215,6 +231,34 @@ static void loads_in_any_order() {
     expect(thrown([&] { second.load_sorting(Map{}); }) == TVK_NOT_RISING, "a load of no records");
 }
 
+static void puts_in_any_order() {
+    Store store;
+    Transaction tx = store.transaction();
+    Map all, more;
+    for (int i = 0; i < 3000; i++) all[key_of(2 * i)] = "old";
+    for (int i = 0; i < 3000; i++) more[key_of(3 * i)] = "new";
+    tx.load(all);
+    expect(tx.put(more) == 3000 && tx.put(more, 700) == 3000 && tx.put(Map{}) == 0, "a put");
+    for (auto &[key, value] : more) all[key] = value;
+    auto rows = tx.scan();
+    expect(Map(rows.begin(), rows.end()) == all, "what a put leaves");
+    std::vector<std::pair<std::string, const char *>> twice{{"b", "1"}, {"a", "2"}, {"b", "3"}};
+    expect(thrown([&] { tx.put(twice); }) == TVK_NOT_RISING, "a key that stands twice in a put");
+    std::uint64_t done = 7;
+    expect(thrown([&] { tx.put_sorting(twice, &done); }) == TVK_TWICE && done == 0, "a key that stands twice in a sorted put");
+    expect(tx.put_sorting(more, &done) == 3000 && done == 3000, "a sorted put");
+    expect(tx.put_text(key_of(2) + "\ttext\n" + key_of(9999) + "\ttext") == 2 && tx.get(key_of(2)) == "text", "a put of a text");
+    struct Reading { char key[9]; char value; } readings[2];
+    const tvk_layout layout = {sizeof(Reading), offsetof(Reading, key), 9, offsetof(Reading, value), 1};
+    for (std::size_t i = 0; i < 2; i++) {
+        std::memcpy(readings[i].key, key_of(i ? 4 : 7).data(), 9);
+        readings[i].value = 's';
+    }
+    expect(tx.put_structs(readings, 2, layout, &done) == 2 && done == 2 && tx.get(std::string_view(readings[0].key, 9)) == "s", "structs");
+    expect(tx.get(std::string_view(readings[1].key, 9)) == "s", "a struct whose key is there");
+    expect(thrown([&] { tx.put_text("a\t1\nb"); }) == TVK_BAD_LINE && !tx.contains("a"), "a wrong line of a put");
+}
+
 static void threads_in_turn() {
     std::optional<Store> store;
     std::optional<Transaction> tx;
@@ -239,7 +283,7 @@ static void random_transactions(int calls, unsigned seed) {
         for (int i = below(40); i > 0; i--, done++) {
             std::string key = key_of(below(200)), value(static_cast<std::size_t>(below(65)), 'v');
             bool is_there = seen.count(key) != 0;
-            switch (below(6)) {
+            switch (below(8)) {
             case 0: expect(tx.get(key) == (is_there ? std::optional(seen[key]) : std::nullopt), "a read"); break;
             case 1: tx.put(key, seen[key] = value); break;
             case 2: expect(tx.erase(key) == (seen.erase(key) != 0), "an erase"); break;
@@ -252,9 +296,22 @@ static void random_transactions(int calls, unsigned seed) {
                 expect(Map(rows.begin(), rows.end()) == Map(seen.lower_bound(key), seen.end()), "a scan");
                 break;
             }
+            case 5: {
+                auto rows = tx.scan_back("", key);
+                expect(Map(rows.begin(), rows.end()) == Map(seen.begin(), seen.upper_bound(key)), "a scan back");
+                break;
+            }
+            case 6: {
+                auto from = seen.lower_bound(key), to = seen.upper_bound(key + "~");
+                std::uint64_t most = static_cast<std::uint64_t>(below(4)), gone = 0;
+                for (; from != to && gone < most; gone++) from = seen.erase(from);
+                expect(tx.erase(key, key + "~", most) == gone, "a range");
+                break;
+            }
             default:
                 tx.mark();
-                tx.put(key, value);
+                tx.set(key, value);
+                tx.erase("", tiuvrokk::GREATEST, 3);
                 tx.back();
             }
         }
@@ -272,6 +329,7 @@ int main(int, char **words) {
     errors();
     loads_and_scans();
     loads_in_any_order();
+    puts_in_any_order();
     threads_in_turn();
     random_transactions(std::atoi(words[1]), static_cast<unsigned>(std::atoi(words[2])));
     std::printf("library: %s calls from C++\n", words[1]);

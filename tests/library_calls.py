@@ -7,7 +7,7 @@ import random
 import sys
 import tempfile
 import time
-from typing import Any, Callable, Dict, List, Tuple, Type
+from typing import Any, Callable, Dict, List, Optional, Tuple, Type
 
 import tiuvrokk
 
@@ -31,24 +31,45 @@ def expect(error: Type[Exception], call: Callable[..., Any], *words: Any) -> Any
 def change(rng: random.Random, tx: tiuvrokk.Transaction, seen: Records, keys: List[bytes]) -> None:
     """One random call; `seen` is what the transaction sees."""
     key, value = rng.choice(keys), rng.randbytes(rng.choice((0, 1, 8, 64)))
-    kind = rng.randrange(10)
+    kind = rng.randrange(11)
     if kind in (0, 1):
         assert tx.get(key) == seen.get(key) and (key in tx) == (key in seen)
     elif kind in (2, 3, 4, 5):
         write(kind, tx, seen, (key, value))
     elif kind in (6, 7):
         lo, hi = sorted((rng.choice(keys), rng.choice(keys)))
-        assert list(tx.scan(lo, hi, page=rng.choice((1, 3, 100, 999)))) == keys_between(seen, lo, hi)
+        page, is_back = rng.choice((1, 3, 100, 999)), rng.random() < 0.5
+        limit: Optional[int] = rng.choice([None, 0, 1, 5, 1000])
+        wanted = keys_between(seen, lo, hi)[:: -1 if is_back else 1][:limit]
+        assert list(tx.scan(lo, hi, page, limit=limit, reverse=is_back)) == wanted
+        assert list(reversed(tx)) == sorted(seen, reverse=True)
     elif kind == 8:
         new = {k: rng.randbytes(3) for k in rng.sample(keys, 8) if k not in seen}
         assert tx.load(new.items(), run=rng.choice((1, 3, 4096))) == len(new)
         seen.update(new)
+    elif kind == 9:
+        delete_some(rng, tx, seen, keys)
     else:
         before = dict(seen)
         tx.mark()
         tx[key] = value
         tx.back()
         assert keys_between(before, b"", keys[-1]) == list(tx.scan())
+
+
+def delete_some(rng: random.Random, tx: tiuvrokk.Transaction, seen: Records, keys: List[bytes]) -> None:
+    """The first records of a range go, or those of a slice."""
+    lo, hi = sorted((rng.choice(keys), rng.choice(keys)))
+    gone = [key for key, _ in keys_between(seen, lo, hi)]
+    if rng.random() < 0.5:
+        gone = [key for key in gone if key < hi]
+        del tx[lo:hi]  # type: ignore[misc]
+    else:
+        limit: Optional[int] = rng.choice([None, 0, 1, 5])
+        gone = gone[:limit]
+        assert tx.delete_range(lo, hi, limit) == len(gone)
+    for key in gone:
+        del seen[key]
 
 
 def write(kind: int, tx: tiuvrokk.Transaction, seen: Records, record: Tuple[bytes, bytes]) -> None:

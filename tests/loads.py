@@ -48,6 +48,21 @@ def lines_of_files() -> None:
     wanted("which are loaded", set(alone(lines)[2:-1]), {"OK"})
 
 
+def updates() -> None:
+    """With --update the last line of a run is a PUT, and records that are there get the new values."""
+    wanted("an update", amload("--update", "--run", "2", text="b=1\na=2\nc=3\n"), (0, "BEGIN\nPUT a=2 b=1\nPUT c=3\nCOMMIT\n", ""))
+    lines = amload(text="b=1\nd=1\n")[1] + amload("--update", text="a=2\nb=2\nc=2\n")[1] + "BEGIN\nSCAN a z 9\nCOMMIT\n"
+    wanted("what an update leaves", alone(lines.splitlines())[-2], "ROWS 4 a=2 b=2 c=2 d=1")
+    server = Server("--sessions", "4")
+    client = Client(server.port)
+    for words, text in (((), "b=1\nd=1\n"), (("--update",), "a=2\nb=2\n")):
+        wanted("an update of a server", amload(*words, "--port", str(server.port), text=text), (0, "", ""))
+    wanted("a load of what is there", amload("--port", str(server.port), text="a=3\n")[0], 1)
+    wanted("what they leave", [client.ask(line) for line in ("BEGIN", "SCAN a z 9", "COMMIT")][1], "ROWS 3 a=2 b=2 d=1")
+    client.quit()
+    server.closed()
+
+
 def refusals(folder: str) -> None:
     """Files that are none, statuses and texts."""
     wanted("a record with a space", amload(text="a=1\nb=2\nc d=3\na=4\n"), (3, "", 'amload: line 3 "c d=3": it has a blank\n'))
@@ -295,6 +310,7 @@ def main() -> None:
     signal.signal(signal.SIGINT, signal.SIG_DFL)
     subprocess.run([AMSERVE, "--help"], stdout=subprocess.DEVNULL, check=True)
     lines_of_files()
+    updates()
     real_text()
     most_staged()
     closed_streams()

@@ -71,6 +71,8 @@ def odd_calls(store: tiuvrokk.Store, tx: tiuvrokk.Transaction, odd: Any) -> Dict
         "values": lambda: tx.values(b"", odd),
         "items": lambda: tx.items(odd),
         "count": lambda: tx.count(odd),
+        "a range that goes": lambda: tx.delete_range(odd),
+        "the end of a range that goes": lambda: tx.delete_range(b"", odd),
         "lock": lambda: tx.lock(odd),
         "clean from": lambda: store.clean(odd),
         "clean to": lambda: store.clean(b"", odd),
@@ -110,6 +112,7 @@ def check_bounds() -> None:
         long_key, long_value = b"k" * 33, b"v" * 65
         keys: List[Call] = [lambda: tx.get(long_key), lambda: tx.insert(long_key, b""), lambda: tx.load({long_key: b""})]
         keys += [lambda: tx.lock(long_key), lambda: tx[slice(long_key, None)], lambda: tx.scan(b"", long_key)]
+        keys += [lambda: tx.delete_range(long_key), lambda: tx.__delitem__(slice(long_key, None))]
         keys.append(lambda: store.clean(long_key))
         for call in keys:
             wanted("a long key", str(raised(tiuvrokk.Bad, call)), "a key has at most 32 bytes, and not 33")

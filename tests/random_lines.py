@@ -11,7 +11,8 @@ from support import alone, fail, wanted  # noqa: E402
 
 LINES = 10_000
 KINDS = {
-    "BEGIN": 3, "COMMIT": 1, "GET": 4, "SCAN": 2, "INS": 2, "REP": 1, "DEL": 2, "LOAD": 1, "MARK": 1, "BACK": 1, "LOCK": 1, "odd": 1,
+    "BEGIN": 3, "COMMIT": 1, "GET": 4, "SCAN": 2, "RSCAN": 1, "INS": 2, "REP": 1, "SET": 1, "DEL": 2, "DELR": 1, "LOAD": 1, "MARK": 1,
+    "BACK": 1, "LOCK": 1, "odd": 1,
 }
 
 
@@ -24,7 +25,10 @@ def random_line(dice: random.Random, number: int) -> str:
         "COMMIT": "COMMIT" if dice.random() < 0.7 else "ABORT",
         "GET": f"GET {key}",
         "SCAN": f"SCAN {key} {high} {dice.randint(1, 12)}",
+        "RSCAN": f"RSCAN {key} {high} {dice.randint(1, 12)}",
         "INS": f"INS {key} v{number}",
+        "SET": f"SET {key} s{number}",
+        "DELR": f"DELR {key} {high} {dice.randint(1, 3)}",
         "REP": f"REP {key} r{number}",
         "DEL": f"DEL {key}",
         "LOAD": "LOAD" + "".join(f" {100 + number % 900}{at}=l{number}" for at in range(3)),
@@ -47,7 +51,7 @@ def main() -> None:
     wanted("answers", len(unmerged), len(lines))
     wanted("the same answers merged", alone(lines) == unmerged, True)
     wanted("the same answers merged slowly", alone(lines, "--auto", "1") == unmerged, True)
-    for kind in ("OK", "VAL", "BEGUN", "COMMITTED", "ROWS"):
+    for kind in ("OK", "VAL", "BEGUN", "COMMITTED", "ROWS", "DELETED"):
         if not any(answer.startswith(kind) for answer in unmerged):
             fail(f"no answer {kind}")
     print(f"random lines: {LINES} lines, the same answers merged and unmerged")

@@ -110,6 +110,31 @@ static void delete(int number) {
     stands[number] = 0;
 }
 
+static void set(int number, char byte) {
+    char key[8], value[64];
+    tvk_status got;
+    size_t length = key_of(number, key);
+    memset(value, byte, sizeof value);
+    want(AGAIN(tvk_set(&store, tx, key, length, value, value_length, NULL)) == TVK_OK);
+    now_stands(number, byte);
+}
+
+/* The first records from one number to another go, both included. */
+static void delete_range(int lo, int hi, uint64_t limit) {
+    char from[8], to[8];
+    uint64_t told, due = 0;
+    tvk_status got;
+    key_of(lo, from);
+    key_of(hi, to);
+    want(AGAIN(tvk_delete_range(&store, tx, from, 4, to, 4, limit, &told)) == TVK_OK);
+    for (int number = lo; number <= hi && due < limit; number++)
+        if (stands[number]) {
+            stands[number] = 0;
+            due++;
+        }
+    want(told == due);
+}
+
 static void mark(void) {
     tvk_status got;
     want(AGAIN(tvk_mark(&store, tx)) == TVK_OK);
@@ -129,6 +154,21 @@ static void load(int from, int to, int step, char byte) {
         memset(records[count].value.bytes, byte, value_length);
     }
     want(AGAIN(tvk_load(&store, tx, records, count, NULL, NULL)) == TVK_OK);
+    for (int number = from; number < to; number += step) now_stands(number, byte);
+}
+
+/* Puts the numbers from one to another, the second not included, in steps. */
+static void put(int from, int to, int step, char byte) {
+    static tvk_record records[MOST];
+    tvk_status got;
+    size_t count = 0;
+    for (int number = from; number < to; number += step, count++) {
+        memset(&records[count], 0, sizeof *records);
+        records[count].key.length = key_of(number, (char *)records[count].key.bytes);
+        records[count].value.length = value_length;
+        memset(records[count].value.bytes, byte, value_length);
+    }
+    want(AGAIN(tvk_put(&store, tx, records, count, NULL)) == TVK_OK);
     for (int number = from; number < to; number += step) now_stands(number, byte);
 }
 
@@ -262,6 +302,114 @@ static void scans(void) {
     load(500, 530, 1, 'a');
     want(is_as_it_was());
     close_and_tell("scans");
+}
+
+/* The last records of a range, whose keys stand in three runs in turn and in the final partition. */
+static void scan_back(int lo, int hi, size_t limit) {
+    char from[8], to[8];
+    uint64_t told, at = 0;
+    tvk_status got;
+    key_of(lo, from);
+    key_of(hi, to);
+    want(AGAIN(tvk_scan_back(&store, tx, from, 4, to, 4, rows, limit, &told)) == TVK_OK);
+    for (int number = hi; number >= lo && at < limit; number--) {
+        char text[8];
+        if (!stands[number]) continue;
+        key_of(number, text);
+        want(at < told && !memcmp(rows[at].key.bytes, text, 4) && rows[at].value.bytes[0] == (uint8_t)stands[number]);
+        at++;
+    }
+    want(at == told);
+}
+
+static void scans_back(void) {
+    open_anew();
+    for (int rest = 0; rest < 3; rest++) load(rest, 90, 3, 'a');
+    for (int number = 30; number < 60; number += 7) replace(number, 'b');
+    for (int number = 100; number < 104; number++) insert(number, 'c');
+    delete(89);
+    scan_back(0, 200, 1000);
+    scan_back(0, 88, 1);
+    scan_back(20, 101, 40);
+    scan_back(90, 99, 5);
+    close_and_tell("scans_back");
+}
+
+/* Records that are set and ranges that go: in the final partition, in runs, as ghosts in either, absent; taken back by a
+ * savepoint and by an abort. */
+static void sets_and_ranges(void) {
+    static char stood[MOST];
+    open_anew();
+    for (int rest = 0; rest < 3; rest++) load(rest, 90, 3, 'a');
+    for (int number = 100; number < 140; number++) insert(number, 'c');
+    commit();
+    memcpy(stood, stands, sizeof stands);
+    for (int is_abort = 0; is_abort < 2; is_abort++) {
+        begin();
+        mark();
+        set(5, 'd');
+        set(110, 'd');
+        set(300, 'd');
+        delete(6);
+        delete(111);
+        set(6, 'e');
+        set(111, 'e');
+        delete_range(80, 120, 1);
+        delete_range(80, 120, 17);
+        delete_range(0, 400, 1000);
+        delete_range(0, 400, 1000);
+        set(7, 'f');
+        want(is_as_it_was());
+        if (is_abort) want(tvk_abort(&store, tx) == TVK_OK);
+        else want(tvk_back(&store, tx) == TVK_OK);
+        memcpy(stands, stood, sizeof stands);
+        if (!is_abort) {
+            want(is_as_it_was());
+            commit();
+        }
+    }
+    begin();
+    want(is_as_it_was());
+    close_and_tell("sets_and_ranges");
+}
+
+/* Puts of which none, some and all keys are live, of longer values too, each taken back by a savepoint, and by an abort. */
+static void puts_of_records(void) {
+    static char stood[MOST];
+    static uint8_t long_was[MOST];
+    open_anew();
+    load(0, 90, 3, 'a');
+    load(1, 90, 9, 'b');
+    for (int number = 100; number < 140; number++) insert(number, 'c');
+    delete(100);
+    delete(3);
+    commit();
+    memcpy(stood, stands, sizeof stands);
+    memcpy(long_was, lengths, sizeof lengths);
+    for (int is_abort = 0; is_abort < 2; is_abort++) {
+        begin();
+        mark();
+        put(200, 240, 1, 'd');
+        put(0, 90, 3, 'e');
+        value_length = 40;
+        put(0, 150, 2, 'f');
+        put(1, 300, 7, 'g');
+        value_length = 1;
+        put(60, 61, 1, 'h');
+        want(is_as_it_was());
+        if (is_abort) want(tvk_abort(&store, tx) == TVK_OK);
+        else want(tvk_back(&store, tx) == TVK_OK);
+        memcpy(stands, stood, sizeof stands);
+        memcpy(lengths, long_was, sizeof lengths);
+        if (!is_abort) {
+            want(is_as_it_was());
+            commit();
+        }
+    }
+    begin();
+    put(0, 150, 2, 'i');
+    want(is_as_it_was());
+    close_and_tell("puts");
 }
 
 static void twelve_locks(void) {
@@ -452,6 +600,9 @@ int main(int words, char **word) {
     any_order();
     one_beginning();
     scans();
+    scans_back();
+    sets_and_ranges();
+    puts_of_records();
     twelve_locks();
     six_notes();
     merges();

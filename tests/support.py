@@ -180,7 +180,10 @@ class Client:
         self.socket.close()
 
 
-KINDS = ["GET", "SCAN", "INS", "REP", "DEL", "LOAD", "COMMIT", "ABORT", "MARK", "BACK", "CLEAN", "MERGE", "SEEN", "odd"]
+KINDS = {
+    "GET": 20, "SCAN": 4, "RSCAN": 2, "INS": 16, "REP": 8, "SET": 4, "DEL": 9, "DELR": 1, "LOAD": 4, "COMMIT": 14, "ABORT": 3, "MARK": 3,
+    "BACK": 3, "CLEAN": 1, "MERGE": 2, "SEEN": 2, "odd": 1,
+}
 
 
 def random_line(dice: random.Random, begun: bool) -> str:
@@ -188,13 +191,15 @@ def random_line(dice: random.Random, begun: bool) -> str:
     key = "".join(dice.choices("abc", k=dice.randint(1, 3)))
     if not begun:
         return dice.choice(["BEGIN"] * 12 + ["MERGE 7", "CLEAN a c 9", "SEEN"])
-    kind = dice.choices(KINDS, [20, 6, 16, 10, 10, 4, 14, 3, 3, 3, 1, 2, 2, 1])[0]
+    kind = dice.choices(list(KINDS), list(KINDS.values()))[0]
     if kind in ("GET", "DEL"):
         return f"{kind} {key}"
-    if kind in ("INS", "REP"):
+    if kind in ("INS", "REP", "SET"):
         return f"{kind} {key} {dice.randint(0, 999)}"
-    if kind == "SCAN":
-        return f"SCAN a {key} {dice.randint(1, 20)}" if key >= "a" else "SCAN a c 5"
+    if kind in ("SCAN", "RSCAN"):
+        return f"{kind} a {key} {dice.randint(1, 20)}"
+    if kind == "DELR":
+        return f"DELR {key} {key}b {dice.randint(1, 3)}"
     if kind == "LOAD":
         keys = sorted({"".join(dice.choices("abcdef", k=dice.randint(1, 4))) for _ in range(dice.randint(1, 5))})
         return "LOAD " + " ".join(f"{k}={dice.randint(0, 9)}" for k in keys)

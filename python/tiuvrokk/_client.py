@@ -6,6 +6,7 @@ from __future__ import annotations
 import io
 import itertools
 import os
+import sys
 import warnings
 import weakref
 from collections.abc import Callable, Iterable, Iterator, Sequence
@@ -14,7 +15,7 @@ from threading import get_ident
 from types import TracebackType
 from typing import Any, Optional, TypeVar, Union, overload
 
-from ._mapping import MAX_PAGE, MAX_TRIES, RUN, Mapped, Runner
+from ._mapping import MAX_PAGE, MAX_ROWS, MAX_TRIES, RUN, Mapped, Runner, first_page, limited, most_of
 from ._records import GREATEST, Record, Records, Text, double_line, first_double, line_runs, range_of, runs_of
 from ._wire import GREATEST_KEY, KEY, LAPSED, LEAST_KEY, RECORDS, VALUE, Path, Wire, below_key, ends_of, key_of, number_of, refusal
 from ._wire import Active, actives_of, rows_of, value_of
@@ -364,28 +365,54 @@ class RemoteTransaction(Mapped):
     def __setitem__(self, key: Text, value: Text) -> None:
         """Sets the value under the key, whether it has one or not."""
         record = key_of(key) + b" " + value_of(value)
-        if self._client.is_replica:
-            self._look()
-            self._read = None
-            self._waiting += [b"REP " + record, b"INS " + record]  # the one or the other does it
-        elif self._send([b"REP " + record])[-1] != b"OK":
-            self._send([b"INS " + record])
+        self._do(b"SET " + record)
 
-    def __delitem__(self, key: Text) -> None:
-        """Takes the record away. Raises `Absent` where there is none."""
+    def __delitem__(self, key: Union[Text, slice]) -> None:
+        """Takes the record away. Raises `Absent` where there is none. `del tx[lo:hi]` takes those from `lo` on and below `hi`."""
+        if isinstance(key, slice):
+            self._delete_between(key)
+            return
         text = key_of(key)
         if self._send([b"DEL " + text])[-1] != b"OK":
             raise Absent(text)
 
     def discard(self, key: Text) -> None:
         """Takes the record away, where there is one."""
-        line = b"DEL " + key_of(key)
+        self._do(b"DEL " + key_of(key))
+
+    def _do(self, line: bytes) -> None:
+        """A line that writes, whatever it is answered: to a replica it goes with what follows."""
         if self._client.is_replica:
             self._look()
             self._read = None
             self._waiting.append(line)
         else:
             self._send([line])
+
+    def delete_range(self, lo: Text = b"", hi: Text = GREATEST, limit: Optional[int] = None) -> int:
+        """Takes the records from `lo` to `hi` away, both included, the first `limit` of them, or all. Answers how many went. Each
+        thousand is an operation."""
+        self._look()
+        ends = self._ends(lo, hi)
+        return sum(self._deletions(*ends, most_of(limit))) if ends else 0
+
+    def _deletions(self, low: bytes, high: bytes, most: int) -> Iterator[int]:
+        """How many went, by one line after another."""
+        while most:
+            size = min(most, MAX_ROWS)
+            answer = self._send([b"DELR %b %b %d" % (low, high, size)])[-1]
+            count = number_of(answer, b"DELETED")
+            if count is None or count > size:
+                raise Refused(answer.decode("ascii", "backslashreplace"))
+            yield count
+            most = most - size if count == size else 0
+
+    def _ends(self, lo: Text, hi: Text) -> Optional[tuple[bytes, bytes]]:
+        """The ends of a range as lines have them, unless no key of a line lies there."""
+        low, high = range_of(lo, hi)
+        if low > high:
+            raise bad_range(low, high)
+        return ends_of(low, high) if high else None
 
     def insert(self, key: Text, value: Text) -> None:
         """Adds a record. Raises `Exists` where the key has one."""
@@ -428,12 +455,7 @@ class RemoteTransaction(Mapped):
 
     def _load(self, records: list[Record]) -> None:
         """One run: its last records load it, once those before were staged."""
-        *staged, last = _lines_of(records)
-        try:
-            self._send(staged)
-        except OutOfMemory:
-            self.abort()  # (some of it waits, and nothing but that lets it go)
-            raise
+        last = self._staged(records, b"LOAD")
         try:
             answer = self._send([last])[-1]
         except NotRising:
@@ -441,30 +463,44 @@ class RemoteTransaction(Mapped):
         if answer != b"OK":
             raise refusal(answer, last, self._number)
 
-    def scan(self, lo: Text = b"", hi: Text = GREATEST, page: int = 100) -> Iterator[Record]:
-        """The records from `lo` to `hi`, both included, by rising key. So many are read at a time: `page` at first, 999 at most,
-        and twice as many each time after. Each time locks the range from the next key to `hi`."""
-        return itertools.chain.from_iterable(self._pages(lo, hi, page))
+    def _put(self, records: list[Record]) -> None:
+        self._look()
+        self._send([self._staged(records, b"PUT")])
+
+    def _staged(self, records: list[Record], verb: bytes) -> bytes:
+        """The line that brings the last records of a run, once those before were staged."""
+        *staged, last = _lines_of(records, verb)
+        try:
+            self._send(staged)
+        except OutOfMemory:
+            self.abort()  # (some of it waits, and nothing but that lets it go)
+            raise
+        return last
+
+    def scan(
+        self, lo: Text = b"", hi: Text = GREATEST, page: int = 100, *, limit: Optional[int] = None, reverse: bool = False
+    ) -> Iterator[Record]:
+        """The records from `lo` to `hi`, both included, by rising key, or from `hi` down to `lo` where `reverse` is true; the first
+        `limit` of them, or all. So many are read at a time: `page` at first, 999 at most, and twice as many each time after. Each
+        time locks the range from the next key to its end."""
+        pages = self._pages(lo, hi, first_page(page, limit), reverse)
+        return limited(itertools.chain.from_iterable(pages), limit)
 
     def _record_pages(self, lo: Text, hi: Text) -> Iterator[list[Record]]:
         return self._pages(lo, hi, 100)
 
-    def _key_pages(self, lo: bytes) -> Iterator[list[bytes]]:
-        return ([key for key, _ in page] for page in self._pages(lo, GREATEST, 100))
+    def _key_pages(self, lo: bytes, is_back: bool = False) -> Iterator[list[bytes]]:
+        return ([key for key, _ in page] for page in self._pages(lo, GREATEST, 100, is_back))
 
-    def _pages(self, lo: Text, hi: Text, page: int) -> Iterator[list[Record]]:
+    def _pages(self, lo: Text, hi: Text, page: int, is_back: bool = False) -> Iterator[list[Record]]:
         self._look()
-        low, high = range_of(lo, hi)
-        if low > high:
-            raise bad_range(low, high)
-        if not 1 <= index(page) <= MAX_PAGE:
-            raise bad_limit(MAX_PAGE, page)
-        return self._rows(*ends_of(low, high), page) if high else iter(())
+        ends = self._ends(lo, hi)
+        return self._rows(*ends, page, is_back) if ends else iter(())
 
-    def _rows(self, low: bytes, high: bytes, size: int) -> Iterator[list[Record]]:
+    def _rows(self, low: bytes, high: bytes, size: int, is_back: bool = False) -> Iterator[list[Record]]:
         repeated = 0
         while True:
-            line = b"SCAN %b %b %d" % (low, high, size + repeated)
+            line = b"%b %b %b %d" % (b"RSCAN" if is_back else b"SCAN", low, high, size + repeated)
             answer = self._send([line])[-1]
             rows = rows_of(answer, size + repeated)
             if rows is None:
@@ -472,13 +508,20 @@ class RemoteTransaction(Mapped):
             yield rows[repeated:]
             if len(rows) < size + repeated:
                 return
-            low, repeated, size = rows[-1][0], 1, min(2 * size, MAX_PAGE)
+            low, high = (low, rows[-1][0]) if is_back else (rows[-1][0], high)
+            repeated, size = 1, min(2 * size, MAX_PAGE)
 
     def _from_below(self, low: bytes, end: bytes) -> list[Record]:
         high = below_key(key_of(end))
         first, last = ends_of(low, GREATEST)
         pages = self._rows(first, min(high, last), MAX_PAGE) if high >= first else iter(())
         return list(itertools.chain.from_iterable(pages))
+
+    def _delete_below(self, low: bytes, end: bytes) -> None:
+        high = below_key(key_of(end))
+        first, last = ends_of(low, GREATEST)
+        if high >= first:
+            sum(self._deletions(first, min(high, last), sys.maxsize))
 
     def _look(self) -> None:
         """Raises where the transaction can't go on."""
@@ -510,12 +553,12 @@ class RemoteTransaction(Mapped):
 
 
 # How lines begin that change what is read.
-_WRITES = (b"INS", b"REP", b"DEL", b"LOA", b"BAC")
+_WRITES = (b"INS", b"REP", b"SET", b"DEL", b"LOA", b"PUT", b"BAC")
 # What each verb may be answered, but for refusals.
 _WANTED = {
     b"BEGIN": (b"BEGUN",), b"COMMIT": (b"COMMITTED",), b"ABORT": (b"ABORTED",), b"GET": (b"VAL", b"NONE"), b"SCAN": (b"ROWS",),
-    b"INS": (b"OK", b"EXISTS"), b"REP": (b"OK", b"MISSING"), b"DEL": (b"OK", b"MISSING"), b"LOAD": (b"OK", b"EXISTS"),
-    b"STAGE": _OK, b"LOCK": _OK, b"MARK": _OK, b"BACK": _OK,
+    b"RSCAN": (b"ROWS",), b"INS": (b"OK", b"EXISTS"), b"REP": (b"OK", b"MISSING"), b"SET": _OK, b"DEL": (b"OK", b"MISSING"),
+    b"DELR": (b"DELETED",), b"LOAD": (b"OK", b"EXISTS"), b"PUT": _OK, b"STAGE": _OK, b"LOCK": _OK, b"MARK": _OK, b"BACK": _OK,
 }  # fmt: skip
 
 
@@ -529,14 +572,14 @@ def _is_wanted(line: bytes, answer: bytes) -> bool:
     return answer == word if word in (b"OK", b"NONE", b"MISSING", b"ABORTED") else True
 
 
-def _lines_of(records: list[Record]) -> list[bytes]:
-    """The lines that stage all records of a run but the last, which load it."""
+def _lines_of(records: list[Record], verb: bytes) -> list[bytes]:
+    """The lines that stage all records of a run but the last, which bring it."""
     pairs = [b"%b=%b" % record for record in records]
     if not RECORDS.fullmatch(b" ".join([*pairs, b""])) or any(map(_is_odd, records)):
         raise next(_fault_of(record) for record in records if _is_odd(record))
     width = (_LONGEST_LINE - len("STAGE")) // (max(map(len, pairs)) + 1)
     parts = [b" ".join(pairs[at : at + width]) for at in range(0, len(pairs), width)]
-    return [*[b"STAGE " + part for part in parts[:-1]], b"LOAD " + parts[-1]]
+    return [*[b"STAGE " + part for part in parts[:-1]], verb + b" " + parts[-1]]
 
 
 def _is_odd(record: Record) -> bool:

@@ -13,10 +13,10 @@ from collections.abc import Callable
 
 # Calls that may take long, or end a store that is large: other threads of Python run meanwhile. The others are over sooner
 # than a thread can be woken.
-_LONG = ["open", "close", "abort", "load", "load_structs", "load_text"]
+_LONG = ["open", "close", "abort", "load", "load_structs", "load_text", "put"]
 _SHORT = [
-    "begin", "commit", "mark", "back", "get", "insert", "replace", "delete", "scan", "scan_behind", "lock", "merge", "clean",
-    "commits", "entries", "figures", "upkeep",
+    "begin", "commit", "mark", "back", "get", "insert", "replace", "set", "delete", "delete_range", "scan", "scan_behind",
+    "scan_back", "scan_before", "lock", "merge", "clean", "commits", "entries", "figures", "upkeep",
 ]
 
 _ADVICE = "./install-library PREFIX installs it from the sources, and TIUVROKK_LIBRARY=PREFIX/lib/libtiuvrokk.so names it"

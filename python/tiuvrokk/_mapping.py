@@ -5,16 +5,18 @@ from __future__ import annotations
 
 import itertools
 import random
+import sys
 import time
 import weakref
 from collections import deque
 from collections.abc import Callable, Iterator, Mapping
 from contextlib import contextmanager
+from operator import index
 from types import TracebackType
 from typing import Any, Deque, Generic, NoReturn, Optional, TypeVar, Union, overload
 
-from ._records import GREATEST, Record, Records, Text, all_bytes, bytes_of, range_of
-from .errors import Absent, Busy, Conflict, Held, Lapsed, Status, TooMany
+from ._records import GREATEST, Record, Records, Text, bytes_of, checked, range_of, runs_of
+from .errors import Absent, Busy, Conflict, Held, Lapsed, Status, TooMany, bad_limit
 
 Default = TypeVar("Default")
 Result = TypeVar("Result")
@@ -23,12 +25,13 @@ Tx = TypeVar("Tx", bound="Mapped")
 MAX_TRIES = 100
 """How often `run` runs its function, unless it is told otherwise."""
 MAX_PAGE = 999
+MAX_ROWS = 1000
 RUN = 65536
 _REQUIRED: Any = object()
 # Seconds: the first pause is up to this long, each further one up to twice as long, and none longer than the other.
 _FIRST_PAUSE, _LONGEST_PAUSE = 0.001, 0.25
-# An update of more records takes one lock.
-_SINGLE_LOCKS = 64
+# More records are put together. So few go to their places one by one, and make no run.
+_SINGLE = 64
 # So many values are kept of keys that were given.
 _MOST_KNOWN = 1_000_000
 
@@ -180,8 +183,13 @@ class Mapped(Unique):
         """Sets the value under the key, whether it has one or not."""
         raise NotImplementedError
 
-    def __delitem__(self, key: Text) -> None:
-        """Takes the record away. Raises `Absent` where there is none."""
+    def __delitem__(self, key: Union[Text, slice]) -> None:
+        """Takes the record away. Raises `Absent` where there is none. `del tx[lo:hi]` takes those from `lo` on and below `hi`."""
+        raise NotImplementedError
+
+    def delete_range(self, lo: Text = b"", hi: Text = GREATEST, limit: Optional[int] = None) -> int:
+        """Takes the records from `lo` to `hi` away, both included, the first `limit` of them, or all. Answers how many went. Each
+        thousand is an operation."""
         raise NotImplementedError
 
     def insert(self, key: Text, value: Text) -> None:
@@ -233,14 +241,23 @@ class Mapped(Unique):
             pass
 
     def update(self, records: Records = (), /, **named: Text) -> None:
-        """Sets the value under each key of a mapping, or of pairs, and of the arguments that are named. More than 64 take one
-        lock, from the least key to the greatest."""
+        """Sets the value under each key of a mapping, or of pairs, and of the arguments that are named; the last one, where a key
+        stands twice. More than 64 are one operation, which locks the range from the least key to the greatest, or one for each
+        65,536: what has a record gets its value there, and the others are a sorted run, as of `load`."""
         pairs = [*(records.items() if isinstance(records, Mapping) else records), *named.items()]
-        if len(pairs) > _SINGLE_LOCKS:
-            keys = all_bytes([key for key, _ in pairs])
-            self.lock(min(keys), max(keys), exclusive=True)
-        for key, value in pairs:
-            self[key] = value
+        if len(pairs) <= _SINGLE:
+            for key, value in pairs:
+                self[key] = value
+            return
+        last = dict(checked(pairs))
+        if len(last) > RUN:
+            self.lock(min(last), max(last), exclusive=True)
+        for run in runs_of(last, RUN):
+            self._put(run)
+
+    def _put(self, records: list[Record]) -> None:
+        """Sets some records, which rise by key, by one operation."""
+        raise NotImplementedError
 
     @contextmanager
     def savepoint(self) -> Iterator[None]:
@@ -256,9 +273,12 @@ class Mapped(Unique):
                 self.back()
             raise
 
-    def scan(self, lo: Text = b"", hi: Text = GREATEST, page: int = 100) -> Iterator[Record]:
-        """The records from `lo` to `hi`, both included, by rising key. So many are read at a time: `page` at first, 999 at most,
-        and twice as many each time after. Each time locks the range from the next key to `hi`."""
+    def scan(
+        self, lo: Text = b"", hi: Text = GREATEST, page: int = 100, *, limit: Optional[int] = None, reverse: bool = False
+    ) -> Iterator[Record]:
+        """The records from `lo` to `hi`, both included, by rising key, or from `hi` down to `lo` where `reverse` is true; the first
+        `limit` of them, or all. So many are read at a time: `page` at first, 999 at most, and twice as many each time after. Each
+        time locks the range from the next key to its end."""
         raise NotImplementedError
 
     def items(self, lo: Text = b"", hi: Text = GREATEST) -> Iterator[Record]:
@@ -281,8 +301,8 @@ class Mapped(Unique):
         """The pages of a scan."""
         raise NotImplementedError
 
-    def _key_pages(self, lo: bytes) -> Iterator[list[bytes]]:
-        """The keys from one on, by pages."""
+    def _key_pages(self, lo: bytes, is_back: bool = False) -> Iterator[list[bytes]]:
+        """The keys from one on, by pages, or from the greatest down to it."""
         raise NotImplementedError
 
     def values(self, lo: Text = b"", hi: Text = GREATEST) -> Iterator[bytes]:
@@ -293,6 +313,9 @@ class Mapped(Unique):
         walk = Walk(self)
         self._fresh = weakref.ref(walk)
         return itertools.chain.from_iterable(walk)
+
+    def __reversed__(self) -> Iterator[bytes]:
+        return itertools.chain.from_iterable(self._key_pages(b"", True))
 
     def count(self, lo: Text = b"", hi: Text = GREATEST) -> int:
         """How many records there are from `lo` to `hi`, both included. All are read to be counted."""
@@ -308,13 +331,52 @@ class Mapped(Unique):
 
     def _between(self, asked: slice) -> list[Record]:
         """The records of a slice."""
-        if asked.step is not None:
-            raise TypeError("a slice of keys has no step")
-        low, end = range_of(b"" if asked.start is None else asked.start, GREATEST if asked.stop is None else asked.stop)
-        if asked.stop is None:
+        low, end = ends_of_slice(asked)
+        if end is None:
             return list(self.scan(low, GREATEST, MAX_PAGE))
         return [] if end <= low else self._from_below(low, end)
+
+    def _delete_between(self, asked: slice) -> None:
+        """Takes the records of a slice away."""
+        low, end = ends_of_slice(asked)
+        if end is None:
+            self.delete_range(low)
+        elif end > low:
+            self._delete_below(low, end)
 
     def _from_below(self, low: bytes, end: bytes) -> list[Record]:
         """The records from a key on and below another one, which is above it."""
         raise NotImplementedError
+
+    def _delete_below(self, low: bytes, end: bytes) -> None:
+        """Takes the records from a key on and below another one away."""
+        raise NotImplementedError
+
+
+def ends_of_slice(asked: slice) -> tuple[bytes, Optional[bytes]]:
+    """The first key of a slice, and the one that ends it, if one does."""
+    if asked.step is not None:
+        raise TypeError("a slice of keys has no step")
+    low, end = range_of(b"" if asked.start is None else asked.start, GREATEST if asked.stop is None else asked.stop)
+    return low, None if asked.stop is None else end
+
+
+def most_of(limit: Optional[int]) -> int:
+    """How many records a limit lets be read or go."""
+    if limit is None:
+        return sys.maxsize
+    if index(limit) < 0:
+        raise ValueError(f"a limit of {limit}")
+    return index(limit)
+
+
+def first_page(page: int, limit: Optional[int]) -> int:
+    """How many records are read first: no more than are asked for."""
+    if not 1 <= index(page) <= MAX_PAGE:
+        raise bad_limit(MAX_PAGE, page)
+    return page if limit is None else min(page, max(1, most_of(limit)))
+
+
+def limited(rows: Iterator[Record], limit: Optional[int]) -> Iterator[Record]:
+    """The first of some rows, or all."""
+    return rows if limit is None else itertools.islice(rows, most_of(limit))

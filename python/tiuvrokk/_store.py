@@ -15,7 +15,7 @@ from types import TracebackType
 from typing import Any, NamedTuple, Optional, TypeVar, Union, overload
 
 from ._library import Call, Counts, Handle, Number, calls, holding_calls
-from ._mapping import MAX_PAGE, RUN, Mapped, Runner
+from ._mapping import MAX_PAGE, MAX_ROWS, RUN, Mapped, Runner, first_page, limited, most_of
 from ._records import GREATEST, SIZES, Key, Page, Place, Record, Records, Text, Value, bad_line, below, bytes_of, double_line
 from ._records import first_double, layout_of, lent, line_runs, packed, plain_text, range_of, runs_of, text_of
 from .errors import MAX_LIMIT, Absent, Bad, Closed, Exists, NotRising, Status, Twice, WrongThread, bad_limit, bad_range, error_of
@@ -332,11 +332,13 @@ class Transaction(Mapped):
         """Sets the value under the key, whether it has one or not."""
         text = key if type(key) is bytes else bytes_of(key)
         new = value if type(value) is bytes else bytes_of(value)
-        if self._write(self._calls.replace, text, new):
-            self._write(self._calls.insert, text, new)
+        self._write(self._calls.set, text, new)
 
-    def __delitem__(self, key: Text) -> None:
-        """Takes the record away. Raises `Absent` where there is none."""
+    def __delitem__(self, key: Union[Text, slice]) -> None:
+        """Takes the record away. Raises `Absent` where there is none. `del tx[lo:hi]` takes those from `lo` on and below `hi`."""
+        if isinstance(key, slice):
+            self._delete_between(key)
+            return
         self._stay()
         self._read = None
         text = bytes_of(key)
@@ -357,6 +359,24 @@ class Transaction(Mapped):
         text = key if type(key) is bytes else bytes_of(key)
         if self._write(self._calls.replace, text, value if type(value) is bytes else bytes_of(value)):
             raise Absent(text)
+
+    def delete_range(self, lo: Text = b"", hi: Text = GREATEST, limit: Optional[int] = None) -> int:
+        """Takes the records from `lo` to `hi` away, both included, the first `limit` of them, or all. Answers how many went. Each
+        thousand is an operation."""
+        self._store._use()
+        low, high = _range(lo, hi)
+        return sum(self._deletions(low, high, most_of(limit)))
+
+    def _deletions(self, low: bytes, high: bytes, most: int) -> Iterator[int]:
+        """How many went, by one call after another."""
+        told = Number()
+        self._read = None
+        while most:
+            size = min(most, MAX_ROWS)
+            self._stay()
+            self._ask(self._calls.delete_range, told, low, SIZES[len(low)], high, SIZES[len(high)], _number(size))
+            yield told[0]
+            most = most - size if told[0] == size else 0
 
     def load(self, records: Records, run: int = RUN) -> int:
         """Adds the records of a mapping, or pairs, in any order, cut into runs of at most `run` records, each sorted and added
@@ -395,10 +415,13 @@ class Transaction(Mapped):
             raise Exists(text_of(found))
         return loaded[0]
 
-    def scan(self, lo: Text = b"", hi: Text = GREATEST, page: int = 100) -> Iterator[Record]:
-        """The records from `lo` to `hi`, both included, by rising key. So many are read at a time: `page` at first, 999 at most,
-        and twice as many each time after. Each time locks the range from the next key to `hi`."""
-        return self._rows(Page.records, lo, hi, page)
+    def scan(
+        self, lo: Text = b"", hi: Text = GREATEST, page: int = 100, *, limit: Optional[int] = None, reverse: bool = False
+    ) -> Iterator[Record]:
+        """The records from `lo` to `hi`, both included, by rising key, or from `hi` down to `lo` where `reverse` is true; the first
+        `limit` of them, or all. So many are read at a time: `page` at first, 999 at most, and twice as many each time after. Each
+        time locks the range from the next key to its end."""
+        return limited(self._rows(Page.records, lo, hi, first_page(page, limit), reverse), limit)
 
     def values(self, lo: Text = b"", hi: Text = GREATEST) -> Iterator[bytes]:
         """The values of `scan`."""
@@ -490,33 +513,40 @@ class Transaction(Mapped):
         if status:
             raise Exists(text_of(exists))
 
-    def _rows(self, rows_of: Callable[[Page, int], list[Row]], lo: Text, hi: Text, page: int = 100) -> Iterator[Row]:
-        """What is made of each page of the records from `lo` to `hi`."""
-        return itertools.chain.from_iterable(self._made_pages(rows_of, lo, hi, page))
+    def _put(self, records: list[Record]) -> None:
+        self._stay()
+        self._read = None
+        rows = packed(records)
+        room = (ctypes.c_char * len(rows)).from_buffer(rows)
+        self._ask(self._calls.put, Number(), room, ctypes.c_size_t(len(records)))
+
+    def _rows(
+        self, rows_of: Callable[[Page, int], list[Row]], lo: Text, hi: Text, page: int = 100, is_back: bool = False
+    ) -> Iterator[Row]:
+        """What is made of each page of the records from `lo` to `hi`, or from `hi` to `lo`."""
+        return itertools.chain.from_iterable(self._made_pages(rows_of, lo, hi, page, is_back))
 
     def _record_pages(self, lo: Text, hi: Text) -> Iterator[list[Record]]:
         return self._made_pages(Page.records, lo, hi, 100)
 
-    def _key_pages(self, lo: bytes) -> Iterator[list[bytes]]:
-        return self._made_pages(Page.keys, lo, GREATEST, 100)
+    def _key_pages(self, lo: bytes, is_back: bool = False) -> Iterator[list[bytes]]:
+        return self._made_pages(Page.keys, lo, GREATEST, 100, is_back)
 
-    def _made_pages(self, made: Callable[[Page, int], Made], lo: Text, hi: Text, page: int) -> Iterator[Made]:
+    def _made_pages(self, made: Callable[[Page, int], Made], lo: Text, hi: Text, page: int, is_back: bool = False) -> Iterator[Made]:
         self._store._use()
-        low, high = range_of(lo, hi)
-        if low > high:
-            raise bad_range(low, high)
-        if not 1 <= index(page) <= MAX_PAGE:
-            raise bad_limit(MAX_PAGE, page)
-        return self._pages(made, low, high, page)
+        low, high = _range(lo, hi)
+        return self._pages(made, low, high, page, is_back)
 
-    def _pages(self, made: Callable[[Page, int], Made], low: bytes, high: bytes, size: int) -> Iterator[Made]:
-        told, call = Number(), self._calls.scan
+    def _pages(self, made: Callable[[Page, int], Made], low: bytes, high: bytes, size: int, is_back: bool) -> Iterator[Made]:
+        told, call = Number(), self._calls.scan_back if is_back else self._calls.scan
         while True:
             page = Page(size)
             self._stay()
             self._ask(call, told, low, SIZES[len(low)], high, SIZES[len(high)], page.room, ctypes.c_size_t(size))
             count = told[0]
-            if count:
+            if count and is_back:
+                high, call = page.last_key(count), self._calls.scan_before
+            elif count:
                 low, call = page.last_key(count), self._calls.scan_behind
             yield made(page, count)
             if count < size:
@@ -524,7 +554,18 @@ class Transaction(Mapped):
             size = min(2 * size, MAX_PAGE)
 
     def _from_below(self, low: bytes, end: bytes) -> list[Record]:
-        return list(self._rows(Page.records, low, below(end) if end else b"", MAX_PAGE))
+        return list(self._rows(Page.records, low, below(end), MAX_PAGE))
+
+    def _delete_below(self, low: bytes, end: bytes) -> None:
+        self.delete_range(low, below(end))
+
+
+def _range(lo: Text, hi: Text) -> tuple[bytes, bytes]:
+    """The ends of a range."""
+    low, high = range_of(lo, hi)
+    if low > high:
+        raise bad_range(low, high)
+    return low, high
 
 
 def _run(run: int) -> int:

@@ -23,7 +23,7 @@ from typing import TYPE_CHECKING, Any, Optional, TypeVar
 
 from . import _client
 from ._client import RemoteTransaction
-from ._mapping import MAX_TRIES, may_come_right, pause_after
+from ._mapping import MAX_TRIES, first_page, may_come_right, most_of, pause_after
 from ._records import GREATEST, Record, Text
 from ._wire import Path
 from .errors import Busy, Closed, Conflict, Held, TooMany
@@ -60,12 +60,20 @@ class Transaction:
         """Takes the record away and answers its value, or `default` where there is none."""
         return await self._client._called(partial(self._tx.pop, key, default))
 
-    async def scan(self, lo: Text = b"", hi: Text = GREATEST, page: int = 100) -> AsyncIterator[Record]:
-        """The records from `lo` to `hi`, both included, by rising key, read by pages."""
-        pages = self._tx._pages(lo, hi, page)
-        while (rows := await self._client._called(lambda: next(pages, None))) is not None:
-            for row in rows:
+    async def scan(
+        self, lo: Text = b"", hi: Text = GREATEST, page: int = 100, *, limit: Optional[int] = None, reverse: bool = False
+    ) -> AsyncIterator[Record]:
+        """The records from `lo` to `hi`, both included, by rising key, or from `hi` down to `lo` where `reverse` is true; the first
+        `limit` of them, or all. They are read by pages."""
+        pages, left = self._tx._pages(lo, hi, first_page(page, limit), reverse), most_of(limit)
+        while left and (rows := await self._client._called(lambda: next(pages, None))) is not None:
+            for row in rows[:left]:
                 yield row
+            left -= len(rows[:left])
+
+    async def delete_range(self, lo: Text = b"", hi: Text = GREATEST, limit: Optional[int] = None) -> int:
+        """Takes the records from `lo` to `hi` away, both included, the first `limit` of them, or all. Answers how many went."""
+        return await self._client._called(partial(self._tx.delete_range, lo, hi, limit))
 
     put, delete, insert = _awaited(RemoteTransaction.__setitem__), _awaited(RemoteTransaction.__delitem__), _awaited(RemoteTransaction.insert)
     replace, discard, setdefault = _awaited(RemoteTransaction.replace), _awaited(RemoteTransaction.discard), _awaited(RemoteTransaction.setdefault)

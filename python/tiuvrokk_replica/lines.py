@@ -4,6 +4,8 @@ from __future__ import annotations
 import re
 from typing import FrozenSet
 
+from tiuvrokk_tools.verbs import STAGING, Kind, words_of
+
 # The longest line, without its LF.
 LONGEST = 4096
 # Bytes that no answer goes beyond but rows.
@@ -11,10 +13,17 @@ LONGEST_SHORT = 110
 # The range of all keys.
 EVERYTHING = b"! " + b"~" * 32
 # Lines that write nothing, whatever they are answered.
-READS: FrozenSet[bytes] = frozenset((b"GET", b"SCAN", b"LOCK", b"MARK", b"BACK"))
+READS: FrozenSet[bytes] = frozenset(word.encode() for word in words_of(Kind.READS))
+# Lines that may make a run.
+LOADING = tuple(verb + b" " for verb in sorted(STAGING))
 # A request of HTTP: two words or more and a version; how those lines begin that may end so too.
 REQUEST = re.compile(rb"[\t\f\r ]*[^\t\f\r ]+[\t\f\r ]+[^\t\f\r ].*[\t\f\r ]http/[0-9][0-9.]*[\t\f\r ]*", re.IGNORECASE | re.DOTALL)
-OWN_FRONTS = (b"INS ", b"REP ", b"LOCK S ", b"LOCK X ")
+OWN_FRONTS = (b"INS ", b"REP ", b"SET ", b"LOCK S ", b"LOCK X ")
+
+
+def most_runs_of(text: bytes) -> int:
+    """How many runs lines make at most."""
+    return sum(text.count(b"\n" + front) for front in LOADING) + text.startswith(LOADING)
 
 
 def may_have_http(text: bytes) -> bool:
@@ -32,7 +41,7 @@ def is_of_http(line: bytes) -> bool:
 
 def longest_answer(line: bytes) -> int:
     """Bytes that no answer to the line goes beyond: a row has 98."""
-    if line.startswith(b"SCAN "):
+    if line.startswith((b"SCAN ", b"RSCAN ")):
         count = line.rpartition(b" ")[2]
         return LONGEST_SHORT + 98 * (min(int(count), 1000) if count.isdigit() and len(count) < 5 else 0)
     return LONGEST_SHORT

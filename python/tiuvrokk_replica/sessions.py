@@ -6,6 +6,8 @@ import re
 import time
 from typing import Awaitable, Callable, Dict, List, Optional, Union
 
+from tiuvrokk_tools.verbs import WRITES as VERBS_THAT_WRITE
+
 from .lines import LONGEST, is_of_http, may_have_http
 from .replica import Outcome, Replica
 from .transaction import LIMIT, UNREACHABLE, Block, Transaction
@@ -15,12 +17,13 @@ CHUNK = 1 << 18
 # Bytes of whole transactions that were sent ahead, for one entry.
 AHEAD = 500_000
 # Whole transactions that read a few records, which may go to the store as they stand.
-READS_AHEAD = re.compile(rb"(?:BEGIN\n(?:(?:GET [!-<>-~]{1,32}|SCAN [!-<>-~]{1,32} [!-<>-~]{1,32} [1-9])\n)*COMMIT\n)+")
+READS_AHEAD = re.compile(rb"(?:BEGIN\n(?:(?:GET [!-<>-~]{1,32}|R?SCAN [!-<>-~]{1,32} [!-<>-~]{1,32} [1-9])\n)*COMMIT\n)+")
 # Whole transactions that write a few records, and the lines between BEGIN and COMMIT of one; a line that may write.
-WRITES_AHEAD = re.compile(rb"(?:BEGIN\n(?:(?:GET|INS|REP|DEL|LOAD|LOCK) [ -~]*\n)+COMMIT\n)+")
+WRITERS = b"|".join(sorted(VERBS_THAT_WRITE))
+WRITES_AHEAD = re.compile(rb"(?:BEGIN\n(?:(?:GET|LOCK|%b) [ -~]*\n)+COMMIT\n)+" % WRITERS)
 # (none of the lines between begins as COMMIT does)
 BODY = re.compile(rb"BEGIN\n((?:[^C].*\n)+)COMMIT\n")
-WRITES = re.compile(rb"^(?:INS|REP|DEL|LOAD) ", re.MULTILINE)
+WRITES = re.compile(rb"^(?:%b) " % WRITERS, re.MULTILINE)
 # Bytes of answers that a client hasn't read, and sendings whose ends aren't known, beyond which its lines wait.
 UNREAD, MOST_FLYING = 1 << 16, 100
 BEGUN = re.compile(rb"^BEGUN [0-9]+$", re.MULTILINE)

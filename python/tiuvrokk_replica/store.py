@@ -9,20 +9,20 @@ import subprocess
 from fcntl import fcntl
 from typing import Callable, Iterator, List, Optional, Tuple
 
-from .lines import EVERYTHING, longest_answer
+from .lines import EVERYTHING, longest_answer, most_runs_of
 
 # What depends on this store's own past, and not on the log.
 OWN_FAULTS = frozenset((b"ERR MEMORY", b"ERR FULL", b"ERR RUNS"))
 # The words that an answer begins with. A store that has one session answers nothing BUSY.
-WORDS = frozenset(b"BEGUN VAL NONE ROWS OK EXISTS MISSING NOMARK COMMITTED ABORTED MOVED DONE IDLE CLEANED ERR".split())
+WORDS = frozenset(b"BEGUN VAL NONE ROWS OK EXISTS MISSING DELETED NOMARK COMMITTED ABORTED MOVED DONE IDLE CLEANED ERR".split())
 # Bytes that are written at once.
 ROOM = 60_000
 SET_PIPE_SIZE = 1031  # fcntl's F_SETPIPE_SZ, which Python has from 3.10 on
 # Bytes of answers that are asked for at once.
 PORTION = 4_000_000
-# Runs that a store may make before it is made anew. It has 65,535; those of aborted LOADs count, and slow it down.
+# Runs that a store may make before it is made anew. It has 65,535; those of aborted LOADs and PUTs count, and slow it down.
 RUNS = 20_000
-# LOADs that are asked for at once: as many runs of the store are left at least.
+# LOADs and PUTs that are asked for at once: as many runs of the store are left at least.
 LOADS = 1_000
 # Most records, and bytes of lines, of a run that is loaded.
 RUN_RECORDS, RUN_BYTES = 65_000, 900_000
@@ -81,7 +81,7 @@ class Store:
             text = b"".join(line + b"\n" for line, _ in owed) + text
         if not text:
             return []
-        self.runs += text.count(b"\nLOAD ") + text.startswith(b"LOAD ")
+        self.runs += most_runs_of(text)
         answers = self.raw(text, len(owed) + count).split(b"\n")[:-1]
         for answer in answers:
             if answer.partition(b" ")[0] not in WORDS or answer in OWN_FAULTS:

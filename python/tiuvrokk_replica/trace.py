@@ -3,6 +3,8 @@ from __future__ import annotations
 
 from typing import List, TextIO
 
+from tiuvrokk_tools.verbs import STAGING
+
 # Answers to lines that take no step of the store.
 NO_STEP = frozenset((b"ERR SYNTAX", b"ERR RANGE", b"ERR ACTIVE", b"ERR LONG"))
 
@@ -17,10 +19,10 @@ def pairs(fields: List[bytes]) -> str:
 
 def step_of(number: int, word: bytes, fields: List[bytes]) -> str:
     """A step, as a trace spells it."""
-    if word == b"LOAD":
-        return f"LOAD {number}" + pairs(fields)
-    if word == b"SCAN":
-        return f"SCAN {number} {hexed(fields[0])} {hexed(fields[1])} {fields[2].decode()}"
+    if word in STAGING:
+        return f"{word.decode()} {number}" + pairs(fields)
+    if word in (b"SCAN", b"RSCAN", b"DELR"):
+        return f"{word.decode()} {number} {hexed(fields[0])} {hexed(fields[1])} {fields[2].decode()}"
     if word == b"LOCK":
         return f"LOCK {number} {fields[0].decode()} {hexed(fields[1])} {hexed(fields[2])}"
     return " ".join([word.decode(), str(number)] + [hexed(field) for field in fields])
@@ -48,7 +50,7 @@ class Trace:
 
     def begin(self) -> None:
         self.file.truncate(0)
-        self.file.write("TRACE 2\n")
+        self.file.write("TRACE 3\n")
         self.file.flush()
 
     def write(self, lines: List[bytes], answers: List[bytes]) -> None:
@@ -63,7 +65,7 @@ class Trace:
             if word == b"STAGE":
                 staged += fields if answer == b"OK" else []
                 continue
-            if word == b"LOAD":
+            if word in STAGING:
                 staged, fields = [], staged + fields
             rows.append(f"{step_of(self.number, word, fields)} | {reply_of(answer)}")
         rows.append(f"COMMIT {self.number} | COMMITTED {self.number}\n")

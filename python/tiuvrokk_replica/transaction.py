@@ -6,7 +6,9 @@ from __future__ import annotations
 import hashlib
 from typing import List, NamedTuple
 
-from .lines import LONGEST_SHORT, READS, longest_answer
+from tiuvrokk_tools.verbs import STAGING, has_written
+
+from .lines import LONGEST_SHORT, READS, longest_answer, most_runs_of
 from .store import LOADS, PORTION, RUNS, Store
 
 CONFLICT = b"ERR CONFLICT"
@@ -22,7 +24,7 @@ EMPTY = hashlib.sha256().hexdigest().encode()
 
 def may_leave_ghosts(text: bytes) -> bool:
     """Whether lines may leave places of what they deleted or took back."""
-    return b"DEL " in text or b"BACK\n" in text
+    return b"DEL " in text or b"DELR " in text or b"BACK\n" in text
 
 
 class Block(NamedTuple):
@@ -42,9 +44,10 @@ class Block(NamedTuple):
         return self.body.split(b"\n")[:-1]
 
     def loads(self) -> int:
-        return self.body.count(b"\nLOAD ") + self.body.startswith(b"LOAD ")
+        return most_runs_of(self.body)
 
     def longest_answers(self) -> int:
+        # (RSCAN has it within)
         return sum(map(longest_answer, self.lines)) if b"SCAN " in self.body else LONGEST_SHORT * self.number
 
     def may_leave_ghosts(self) -> bool:
@@ -75,7 +78,7 @@ class Batch:
     def is_small(self) -> bool:
         """Whether no store answers more than PORTION, and it makes no more runs than LOADS by them."""
         most = LONGEST_SHORT * (sum(self.numbers) + 2 * len(self.numbers))
-        return b"SCAN " not in self.text and most <= PORTION and self.text.count(b"LOAD ") <= LOADS
+        return b"SCAN " not in self.text and most <= PORTION and most_runs_of(self.text) <= LOADS
 
     def blocks(self) -> List[Block]:
         found: List[Block] = []
@@ -162,14 +165,13 @@ class Transaction:
         return answers
 
     def take(self, line: bytes, answer: bytes) -> None:
-        """A line was answered. One with a fault did nothing and is forgotten; a LOAD lets go what was staged."""
+        """A line was answered. One with a fault did nothing and is forgotten; a LOAD or PUT lets go what was staged."""
         word = line.partition(b" ")[0]
-        if answer.startswith(b"ERR ") and (word != b"LOAD" or answer in (b"ERR SYNTAX", b"ERR RANGE")):
+        if answer.startswith(b"ERR ") and (word not in STAGING or answer in (b"ERR SYNTAX", b"ERR RANGE")):
             return
-        if word in (b"LOAD", b"STAGE"):
+        if word in STAGING or word == b"STAGE":
             self.waits_to_load = word == b"STAGE"
-        if answer == b"OK" and word not in READS and word != b"STAGE":
-            self.wrote = True
+        self.wrote = self.wrote or has_written(line, answer)
         self.lines.append(line)
         self.digest.update(answer + b"\n")
         self.line_bytes += line_size(line)

@@ -12,7 +12,7 @@ except ImportError:  # (some builds of Python have none: then nothing is complet
 MOST_KEYS = 100_000
 MOST_LINES = 1000
 KEY = re.compile(rb"(?<= )[!-<>-~]{1,32}(?==)")
-ASKED = re.compile(rb"(?:GET|INS|REP|DEL) ([!-<>-~]{1,32})")
+ASKED = re.compile(rb"(?:GET|INS|REP|SET|DEL) ([!-<>-~]{1,32})")
 
 
 class Completion:

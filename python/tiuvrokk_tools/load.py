@@ -6,6 +6,8 @@ the server there, and the transaction is committed only where every line was ans
 
     (./amload data.tsv; cat queries) | ./amserve alone
 
+A record that is there already is refused with all others; with --update it gets the new value.
+
 It holds a server first: nobody else begins meanwhile, so no lock is in the way of the load, and readers wait as
 long as it takes. Where another holds, or a transaction doesn't end in time, it tries again.
 
@@ -123,6 +125,7 @@ def words() -> argparse.Namespace:
     parser = Parser(NAME, __doc__, EPILOG)
     run = f"records of a run, 1 to {MAX_RUN} (default: {MAX_RUN})"
     parser.add_argument("--run", type=numbers(1, MAX_RUN), default=MAX_RUN, metavar="N", help=run)
+    parser.add_argument("--update", action="store_true", help="records that are there get the new values")
     parser.add_argument("--skip-empty", action="store_true", help="pass over empty lines")
     parser.add_argument("--skip", action="store_true", help="pass over lines that are no record, or have a key that was there, and say how many and why")
     parser.add_argument("--escape", action="store_true", help="carry blanks and all other bytes by percent signs")
@@ -152,7 +155,7 @@ def main() -> int:
     asked = words()
     # What is made lives until the end, so a search for what can go finds nothing.
     gc.disable()
-    runs = read(asked.file, Reading(asked.run, asked.skip_empty, asked.skip, asked.escape, asked.key_bytes, asked.value_bytes))
+    runs = read(asked.file, Reading(asked.run, asked.skip_empty, asked.skip, asked.escape, asked.key_bytes, asked.value_bytes, asked.update))
     if told := runs.told_faults():
         say(f"amload: {told}")
     if not runs.records():

@@ -5,6 +5,8 @@ trace tells where each record stands, though it names no partition but that of M
 transaction was aborted, is a ghost: it stands at its place, unseen, until a merge step of its run or CLEAN takes it away. CLEAN
 takes the first ghosts, by partition and key, whose keys nobody has locked exclusively."""
 
+import heapq
+import itertools
 import re
 from bisect import bisect_left, bisect_right, insort
 from collections import deque
@@ -147,9 +149,11 @@ class Merging:
             self.words.append((self.steps, "busy"))
         elif reply == b"ERR":
             pass
-        elif verb in (b"GET", b"SCAN"):
-            self.read(key_of(words[1]), key_of(words[2 if verb == b"SCAN" else 1]))
-        elif verb in (b"INS", b"REP", b"DEL", b"LOAD"):
+        elif verb in (b"GET", b"SCAN", b"RSCAN"):
+            self.read(key_of(words[1]), key_of(words[1 if verb == b"GET" else 2]))
+        elif verb == b"DELR":
+            self.delete_range(words[0], key_of(words[1]), key_of(words[2]), int(told[0]))
+        elif verb in (b"INS", b"REP", b"SET", b"DEL", b"LOAD"):
             self.write(verb, words, reply == b"OK")
         elif verb in (b"LOCK", b"MARK", b"BACK", b"COMMIT", b"ABORT"):
             self.control(verb, words, reply)
@@ -166,19 +170,33 @@ class Merging:
         body = self.body(words[0])
         keys = [key_of(word.partition(b"=")[0]) for word in (words[1:] if verb == b"LOAD" else words[1:2])]
         body.locks.add((keys[0], keys[-1]))
-        if not is_done or verb == b"REP":
+        if not is_done or verb == b"REP" or (verb == b"SET" and self.is_live(keys[0])):
             return
         if verb == b"LOAD":
             run = Run(self.steps, keys)
             self.runs.append(run)
             self.homes.update(dict.fromkeys(keys, run))
             body.writes.append(Write(b"", run, False))
-        elif verb == b"INS":
+        elif verb in (b"INS", b"SET"):
             self.arrive(keys[0])
             body.writes.append(Write(keys[0], None, False))
         else:
-            body.writes.append(Write(keys[0], self.homes.get(keys[0]), True))
-            self.vanish(keys[0])
+            self.delete(body, keys[0])
+
+    def delete(self, body: Body, key: bytes) -> None:
+        body.writes.append(Write(key, self.homes.get(key), True))
+        self.vanish(key)
+
+    def delete_range(self, owner: bytes, low: bytes, high: bytes, count: int) -> None:
+        """The first records of a range go."""
+        body = self.body(owner)
+        body.locks.add((low, high))
+        live = (key for key in itertools.chain(self.homes, self.arrived) if low <= key <= high)
+        for key in heapq.nsmallest(count, live):
+            self.delete(body, key)
+
+    def is_live(self, key: bytes) -> bool:
+        return key in self.homes or key in self.arrived
 
     def arrive(self, key: bytes) -> None:
         """A record stands in the final partition, in place of any ghost there."""

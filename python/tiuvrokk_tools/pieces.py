@@ -33,6 +33,13 @@ class Reading(NamedTuple):
     key_bytes: int = 0
     value_bytes: int = 0
     """At most so many bytes of a key, and of a value, where it isn't 0."""
+    updates: bool = False
+    """Records that are there get the new values."""
+
+    @property
+    def verb(self) -> bytes:
+        """That of a run's last line."""
+        return b"PUT" if self.updates else b"LOAD"
 
 
 class Run(NamedTuple):
@@ -77,7 +84,8 @@ def piece_of(text: bytes, first: int, reading: Reading) -> Piece:
                 bad = bad or (number, line, why)
     if reading.skips:
         records = without_doubles(records, faults)
-    return Piece([run_of(records[at : at + reading.run]) for at in range(0, len(records), reading.run)], bad, faults)
+    runs = [run_of(records[at : at + reading.run], reading.verb) for at in range(0, len(records), reading.run)]
+    return Piece(runs, bad, faults)
 
 
 def record_of(line: bytes, reading: Reading) -> bytes:
@@ -112,10 +120,10 @@ def key_of(record: bytes) -> bytes:
     return record.partition(b"\t")[0]
 
 
-def run_of(records: List[bytes]) -> Run:
+def run_of(records: List[bytes], verb: bytes) -> Run:
     """A run as it is loaded."""
     hashes = array.array("q", sorted(map(hash, map(key_of, records))))
-    lines = lines_of(records)
+    lines = lines_of(records, verb)
     size = sum(map(len, records)) + len(records)
     return Run(len(records), min(records), max(records), size, hashes.tobytes(), lines)
 
@@ -349,6 +357,6 @@ class Pieces:
                 gone = set(self.dropped[at])
                 done -= len(gone)
                 records = [word for word in lines.split() if b"=" in word and word.partition(b"=")[0] not in gone]
-                lines = lines_of([record.replace(b"=", b"\t", 1) for record in records]) if records else b""
+                lines = lines_of([record.replace(b"=", b"\t", 1) for record in records], self.reading.verb) if records else b""
             yield done, lines
 

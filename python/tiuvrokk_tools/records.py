@@ -37,11 +37,11 @@ def fault_of(line: bytes) -> str:
     return next((why for is_so, why in faults if is_so), too_long)
 
 
-def lines_of(records: List[bytes]) -> bytes:
-    """The lines that stage the records of one run and load the last of them. TAB is below all that a key may have, so
+def lines_of(records: List[bytes], verb: bytes = b"LOAD") -> bytes:
+    """The lines that stage the records of one run and load, or put, the last of them. TAB is below all that a key may have, so
     records stand in the order of their keys."""
     records = sorted(records)
     width = (MAX_LINE - len("STAGE")) // (max(map(len, records)) + 1)
     parts = [b" ".join(records[at : at + width]) for at in range(0, len(records), width)]
     last = parts.pop()
-    return b"".join(b"STAGE %b\n" % part for part in parts).replace(b"\t", b"=") + b"LOAD %b\n" % last.replace(b"\t", b"=")
+    return b"".join([*(b"STAGE %b\n" % part for part in parts), b"%b %b\n" % (verb, last)]).replace(b"\t", b"=")

@@ -1,54 +1,125 @@
 """The lines of a session as docs/protocol.md has them in its table: the line, what it asks for, its answers."""
 
 import difflib
+import enum
 import itertools
 import re
-from typing import List, Tuple
+from typing import List, NamedTuple, Tuple
 
-ALONE = ("GET", "SCAN", "INS", "REP", "DEL", "LOAD")
-"""The verbs that are a transaction of their own where none is active."""
+class Kind(enum.Enum):
+    """What a line does to its transaction."""
 
-TABLE: List[Tuple[str, str, str]] = [
-    ("BEGIN", "a transaction", "BEGUN t, t being its number: they rise by one from 1"),
-    ("GET k", "the value under a key", "VAL v, or NONE"),
-    ("SCAN lo hi n", "the first n records of the range, n from 1 to 1,000", "ROWS m k=v k=v .., m records by rising key"),
-    ("INS k v", "a new record", "OK, or EXISTS k where the key has a record"),
-    ("REP k v", "another value for a record", "OK, or MISSING"),
-    ("DEL k", "a record to go", "OK, or MISSING"),
-    (
+    ENDS = "begins or ends it"
+    READS = "belongs to it, and writes nothing, whatever it is answered"
+    WRITES = "belongs to it, and writes"
+    STAGES = "has records wait for one that writes"
+    APART = "stands apart from transactions"
+
+
+class Verb(NamedTuple):
+    """The lines that begin with a word, as docs/protocol.md tells of them."""
+
+    lines: str
+    """Its forms."""
+    asks: str
+    """What they ask for."""
+    answers: str
+    """What they are answered, refusals aside."""
+    kind: Kind
+
+    @property
+    def word(self) -> str:
+        return self.lines.partition(" ")[0]
+
+    @property
+    def takes_staged(self) -> bool:
+        """Whether records that were staged go with it."""
+        return self.kind is Kind.WRITES and self.lines.endswith(" ..")
+
+
+TABLE: List[Verb] = [
+    Verb("BEGIN", "a transaction", "BEGUN t, t being its number: they rise by one from 1", Kind.ENDS),
+    Verb("GET k", "the value under a key", "VAL v, or NONE", Kind.READS),
+    Verb(
+        "SCAN lo hi n", "the first n records of the range, n from 1 to 1,000", "ROWS m k=v k=v .., m records by rising key",
+        Kind.READS,
+    ),
+    Verb(
+        "RSCAN lo hi n", "the last n records of the range, n from 1 to 1,000",
+        "ROWS m k=v k=v .., m records from the highest key down", Kind.READS,
+    ),
+    Verb("INS k v", "a new record", "OK, or EXISTS k where the key has a record", Kind.WRITES),
+    Verb("REP k v", "another value for a record", "OK, or MISSING", Kind.WRITES),
+    Verb("SET k v", "a record with this value, whether or not the key has one", "OK", Kind.WRITES),
+    Verb("DEL k", "a record to go", "OK, or MISSING", Kind.WRITES),
+    Verb("DELR lo hi n", "the first n records of the range to go, n from 1 to 1,000", "DELETED m, m of them", Kind.WRITES),
+    Verb(
         "LOAD k=v k=v ..",
         "new records, their keys strictly rising, as a sorted run: all of them or none, with those that were staged "
         "before them",
         "OK, or EXISTS k with the least key that has a record",
+        Kind.WRITES,
     ),
-    ("STAGE k=v k=v ..", "records to wait in the session for its next LOAD", "OK"),
-    ("LOCK S lo hi, LOCK X lo hi", "a shared or an exclusive lock on a range", "OK"),
-    ("MARK", "a savepoint; they are nested", "OK"),
-    ("BACK", "back to the newest savepoint, which goes with that", "OK, or NOMARK where none stands"),
-    ("COMMIT", "the transaction's end, with its writes", "COMMITTED c, c counting the commits from 1"),
-    ("ABORT", "the transaction's end, without them", "ABORTED"),
-    (
+    Verb(
+        "PUT k=v k=v ..",
+        "records with these values, their keys strictly rising, with those that were staged before them: those whose keys have "
+        "none are a sorted run",
+        "OK",
+        Kind.WRITES,
+    ),
+    Verb("STAGE k=v k=v ..", "records to wait in the session for its next LOAD or PUT", "OK", Kind.STAGES),
+    Verb("LOCK S lo hi, LOCK X lo hi", "a shared or an exclusive lock on a range", "OK", Kind.READS),
+    Verb("MARK", "a savepoint; they are nested", "OK", Kind.READS),
+    Verb("BACK", "back to the newest savepoint, which goes with that", "OK, or NOMARK where none stands", Kind.READS),
+    Verb("COMMIT", "the transaction's end, with its writes", "COMMITTED c, c counting the commits from 1", Kind.ENDS),
+    Verb("ABORT", "the transaction's end, without them", "ABORTED", Kind.ENDS),
+    Verb(
         "MERGE n",
         "records of the oldest range that was read to move to the final partition, at most n, from 1 to 64",
         "MOVED m run, DONE (nothing is left there), ENDED k t (transaction t has locked k exclusively), IDLE (nothing "
         "waits)",
+        Kind.APART,
     ),
-    ("CLEAN lo hi n", "at most n deleted records' places to be freed, from 1 to 64", "CLEANED m"),
-    ("SEEN", "what the session sees", "SEEN s c: its number, 0 where it is alone, and the commits so far"),
-    (
+    Verb("CLEAN lo hi n", "at most n deleted records' places to be freed, from 1 to 64", "CLEANED m", Kind.APART),
+    Verb("SEEN", "what the session sees", "SEEN s c: its number, 0 where it is alone, and the commits so far", Kind.APART),
+    Verb(
         "HOLD n",
         "the store to itself, for n milliseconds at most, from 1 to 60,000",
         "OK, or ERR HELD s, s being a session that holds, or has a transaction that didn't end in so long",
+        Kind.APART,
     ),
-    (
+    Verb(
         "WHO",
         "the sessions that have a transaction active",
         "WHO n s:t:q s:t:q .., n sessions, each with its number, its transaction's and the seconds since its last line",
+        Kind.APART,
     ),
-    ("END s", "the end of session s, as if its client were gone", "OK, or ERR SESSION where none has that number"),
-    ("QUIT", "the session's end", "BYE; bytes after it are not answered"),
+    Verb("END s", "the end of session s, as if its client were gone", "OK, or ERR SESSION where none has that number", Kind.APART),
+    Verb("QUIT", "the session's end", "BYE; bytes after it are not answered", Kind.APART),
 ]
-VERBS: List[str] = [line.partition(" ")[0] for line, _, _ in TABLE]
+VERBS: List[str] = [verb.word for verb in TABLE]
+
+# Answers to lines that write, by which nothing was written.
+_DID_NOTHING = (b"EXISTS", b"MISSING", b"ERR", b"BUSY")
+
+
+def words_of(*kinds: Kind) -> Tuple[str, ...]:
+    """The verbs of these kinds."""
+    return tuple(verb.word for verb in TABLE if verb.kind in kinds)
+
+
+ALONE = tuple(word for word in words_of(Kind.READS, Kind.WRITES) if word not in ("LOCK", "MARK", "BACK"))
+"""The verbs that are a transaction of their own where none is active."""
+WRITES = frozenset(word.encode() for word in words_of(Kind.WRITES))
+STAGING = frozenset(verb.word.encode() for verb in TABLE if verb.takes_staged)
+"""The verbs with which records go that were staged before."""
+
+
+def has_written(line: bytes, answer: bytes) -> bool:
+    """Whether a line wrote, by its answer."""
+    return (
+        line.partition(b" ")[0] in WRITES and answer.partition(b" ")[0] not in _DID_NOTHING and answer != b"DELETED 0"
+    )
 
 
 COMMANDS: List[Tuple[str, str]] = [
@@ -69,22 +140,22 @@ WORDS = {"k": "the key", "lo": "the least key", "hi": "the greatest key", "v": "
 
 def help_of_all() -> str:
     """All lines, with what they ask for, and the shell's own commands."""
-    rows = [(line, asks) for line, asks, _ in TABLE] + COMMANDS
+    rows = [(verb.lines, verb.asks) for verb in TABLE] + COMMANDS
     width = max(len(line) for line, _ in rows)
     return "\n".join([*(f"{line:{width}}  {asks}" for line, asks in rows), "HELP VERB tells what a line is answered."])
 
 
 def help_of(verb: str) -> str:
     """One line, what it asks for, and its answers, or a command; nothing, where there is none."""
-    found = [row for row in TABLE if row[0].partition(" ")[0] == verb.upper()]
-    told = [f"{line}\n  asks for  {asks}\n  answers   {answers}" for line, asks, answers in found]
+    found = [row for row in TABLE if row.word == verb.upper()]
+    told = [f"{row.lines}\n  asks for  {row.asks}\n  answers   {row.answers}" for row in found]
     told += [f"{line}\n  {does}" for line, does in COMMANDS if line.partition(" ")[0] == verb.lower()]
     return "\n".join(told)
 
 
 def forms_of(verb: str) -> List[str]:
     """The forms of the lines that begin with the verb."""
-    return [form for line, _, _ in TABLE for form in line.split(", ") if form.partition(" ")[0] == verb]
+    return [form for row in TABLE if row.word == verb for form in row.lines.split(", ")]
 
 
 def fault_of_line(line: str) -> str:
@@ -118,7 +189,7 @@ def fault_of_words(verb: str, forms: List[str], given: List[str]) -> str:
 def fault_of_word(verb: str, name: str, word: str, forms: List[str]) -> str:
     """What is wrong with one word."""
     if name == "n":
-        most = 1000 if verb == "SCAN" else 60_000 if verb == "HOLD" else 64
+        most = 1000 if verb in ("SCAN", "RSCAN", "DELR") else 60_000 if verb == "HOLD" else 64
         return "" if re.fullmatch("[1-9][0-9]{0,5}", word) and int(word) <= most else f"{word} is no number from 1 to {most:,}"
     if name == "s":
         return "" if re.fullmatch("[0-9]{1,20}", word) else f"{word} is no number"

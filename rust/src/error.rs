@@ -33,7 +33,7 @@ pub enum Error {
     TooManyRuns,
     /// The records don't rise strictly by key, or there are none.
     NotRising,
-    /// A number of rows or entries is out of bounds.
+    /// A number of rows, records or entries is out of bounds.
     BadLimit,
     /// Memory was refused.
     NoMemory,

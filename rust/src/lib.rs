@@ -48,6 +48,8 @@ pub use record::{Figures, Key, Layout, Record, Value, GREATEST};
 const FIRST_PAGE: usize = 100;
 /// So many rows are read at once at most.
 const LARGEST_PAGE: usize = 999;
+/// So many records go by one operation at most.
+const MOST_ROWS: u64 = 1000;
 
 /// A store. Its memory is given back where it is dropped.
 pub struct Store {
@@ -257,12 +259,16 @@ impl<'s> Transaction<'s> {
     ///
     /// # Errors
     /// Those of [`Transaction::insert`] but `Exists`.
+    pub fn set(&mut self, key: impl AsRef<[u8]>, value: impl AsRef<[u8]>) -> Result<(), Error> {
+        self.write(library::tvk_set, key.as_ref(), value.as_ref())
+    }
+
+    /// [`Transaction::set`] by another name.
+    ///
+    /// # Errors
+    /// Those of [`Transaction::set`].
     pub fn put(&mut self, key: impl AsRef<[u8]>, value: impl AsRef<[u8]>) -> Result<(), Error> {
-        let (key, value) = (key.as_ref(), value.as_ref());
-        match self.replace(key, value) {
-            Err(Error::Absent) => self.insert(key, value),
-            done => done,
-        }
+        self.set(key, value)
     }
 
     fn write(&mut self, call: Write, key: &[u8], value: &[u8]) -> Result<(), Error> {
@@ -288,6 +294,29 @@ impl<'s> Transaction<'s> {
         }
     }
 
+    /// Takes the records from `lo` to `hi` away, both included, the first `most` of them. How many went. Each thousand is an
+    /// operation.
+    ///
+    /// # Errors
+    /// [`Error::BadRange`], and those of [`Transaction::get`]. What went before stays so.
+    pub fn remove_range(&mut self, lo: impl AsRef<[u8]>, hi: impl AsRef<[u8]>, most: u64) -> Result<u64, Error> {
+        let (lo, hi, mut count) = (lo.as_ref(), hi.as_ref(), 0);
+        while count < most {
+            let (limit, mut told) = (MOST_ROWS.min(most - count), 0);
+            // SAFETY: the handle is open, the keys have as many bytes as is said, and the number is this function's.
+            let status = unsafe {
+                let (low, high) = ((lo.as_ptr(), lo.len()), (hi.as_ptr(), hi.len()));
+                library::tvk_delete_range(self.store.at(), self.number, low.0, low.1, high.0, high.1, limit, &mut told)
+            };
+            checked(status, told)?;
+            count += told;
+            if told < limit {
+                break;
+            }
+        }
+        Ok(count)
+    }
+
     /// Adds records that rise strictly by key as one run, all of them or none.
     ///
     /// # Errors
@@ -310,8 +339,7 @@ impl<'s> Transaction<'s> {
     /// Why the first run that is refused is, and how many records were added before, which stay. [`Error::Twice`] comes before
     /// any is added.
     pub fn load<K: AsRef<[u8]>, V: AsRef<[u8]>>(&mut self, records: impl IntoIterator<Item = (K, V)>) -> Result<u64, LoadError> {
-        let copied: Result<Vec<Record>, Error> = records.into_iter().map(|(key, value)| Record::new(key, value)).collect();
-        let records = copied.map_err(|error| LoadError { error, loaded: 0 })?;
+        let records = copied(records)?;
         if records.is_empty() {
             return Ok(0);
         }
@@ -319,6 +347,27 @@ impl<'s> Transaction<'s> {
             let (at, number) = (records.as_ptr(), records.len());
             // SAFETY: the records are as many as is said.
             unsafe { library::tvk_load_sorting(store, tx, at, number, &mut told.key, loaded, &mut told.number) }
+        })
+    }
+
+    /// Sets records in any order, whether their keys have one or not: the first 65,536 of them by one operation, then the next
+    /// 65,536, and so on. Those whose keys have none make a run. How many they all are.
+    ///
+    /// # Errors
+    /// Why those are refused that are, and how many records were set before, which stay. [`Error::Twice`] comes before any is
+    /// set.
+    pub fn update<K: AsRef<[u8]>, V: AsRef<[u8]>>(
+        &mut self,
+        records: impl IntoIterator<Item = (K, V)>,
+    ) -> Result<u64, LoadError> {
+        let records = copied(records)?;
+        if records.is_empty() {
+            return Ok(0);
+        }
+        self.loaded(|store, tx, told, loaded| {
+            let (at, number) = (records.as_ptr(), records.len());
+            // SAFETY: the records are as many as is said.
+            unsafe { library::tvk_put_sorting(store, tx, at, number, &mut told.key, loaded, &mut told.number) }
         })
     }
 
@@ -363,7 +412,17 @@ impl<'s> Transaction<'s> {
     /// The records from `lo` to `hi`, both included, by rising key. They are read while they are walked through, and each time
     /// the range from the next key to `hi` is locked.
     pub fn scan(&self, lo: impl AsRef<[u8]>, hi: impl AsRef<[u8]>) -> Rows<'_> {
-        Rows { tx: self, ends: Ok((lo.as_ref().to_vec(), hi.as_ref().to_vec())), page: Vec::new(), at: 0, size: 0 }
+        self.rows(lo.as_ref(), hi.as_ref(), false)
+    }
+
+    /// The records from `hi` down to `lo`, both included. They are read while they are walked through, and each time the range
+    /// from `lo` to the next key is locked.
+    pub fn scan_back(&self, lo: impl AsRef<[u8]>, hi: impl AsRef<[u8]>) -> Rows<'_> {
+        self.rows(lo.as_ref(), hi.as_ref(), true)
+    }
+
+    fn rows(&self, lo: &[u8], hi: &[u8], is_back: bool) -> Rows<'_> {
+        Rows { tx: self, ends: Ok((lo.to_vec(), hi.to_vec())), is_back, page: Vec::new(), at: 0, size: 0 }
     }
 
     /// Locks a range, absent keys too.
@@ -383,6 +442,11 @@ impl<'s> Transaction<'s> {
     }
 }
 
+fn copied<K: AsRef<[u8]>, V: AsRef<[u8]>>(records: impl IntoIterator<Item = (K, V)>) -> Result<Vec<Record>, LoadError> {
+    let made: Result<Vec<Record>, Error> = records.into_iter().map(|(key, value)| Record::new(key, value)).collect();
+    made.map_err(|error| LoadError { error, loaded: 0 })
+}
+
 fn checked(status: c_int, holder: u64) -> Result<(), Error> {
     check(status, Told { number: holder, ..Told::default() })
 }
@@ -400,12 +464,13 @@ impl fmt::Debug for Transaction<'_> {
     }
 }
 
-/// The records of a range, by [`Transaction::scan`]. Behind a refusal nothing more comes.
+/// The records of a range, by [`Transaction::scan`] or [`Transaction::scan_back`]. Behind a refusal nothing more comes.
 #[derive(Debug)]
 pub struct Rows<'t> {
     tx: &'t Transaction<'t>,
-    // From where it goes on, and to where; or nothing more comes.
+    // What is left to read; or nothing more comes.
     ends: Result<(Vec<u8>, Vec<u8>), ()>,
+    is_back: bool,
     page: Vec<Record>,
     at: usize,
     // Of the page that was read last; 0 before the first one.
@@ -418,10 +483,16 @@ impl Rows<'_> {
         let Ok((lo, hi)) = &mut self.ends else {
             return Ok(());
         };
-        let scan = if self.size == 0 { library::tvk_scan } else { library::tvk_scan_behind };
+        let scan = match (self.is_back, self.size) {
+            (false, 0) => library::tvk_scan,
+            (false, _) => library::tvk_scan_behind,
+            (true, 0) => library::tvk_scan_back,
+            (true, _) => library::tvk_scan_before,
+        };
         if let Some(last) = self.page.last() {
-            lo.clear();
-            lo.extend_from_slice(&last.key);
+            let end = if self.is_back { &mut *hi } else { &mut *lo };
+            end.clear();
+            end.extend_from_slice(&last.key);
         }
         self.size = if self.size == 0 { FIRST_PAGE } else { LARGEST_PAGE.min(2 * self.size) };
         self.at = 0;

@@ -47,6 +47,25 @@ extern "C" {
         value_length: usize,
         holder: *mut u64,
     ) -> c_int;
+    pub(crate) fn tvk_set(
+        store: *mut Handle,
+        tx: u64,
+        key: *const u8,
+        key_length: usize,
+        value: *const u8,
+        value_length: usize,
+        holder: *mut u64,
+    ) -> c_int;
+    pub(crate) fn tvk_delete_range(
+        store: *mut Handle,
+        tx: u64,
+        lo: *const u8,
+        lo_length: usize,
+        hi: *const u8,
+        hi_length: usize,
+        limit: u64,
+        told: *mut u64,
+    ) -> c_int;
     pub(crate) fn tvk_delete(store: *mut Handle, tx: u64, key: *const u8, key_length: usize, holder: *mut u64) -> c_int;
     pub(crate) fn tvk_load(
         store: *mut Handle,
@@ -85,6 +104,15 @@ extern "C" {
         loaded: *mut u64,
         holder: *mut u64,
     ) -> c_int;
+    pub(crate) fn tvk_put_sorting(
+        store: *mut Handle,
+        tx: u64,
+        records: *const Record,
+        number: usize,
+        key: *mut Key,
+        done: *mut u64,
+        holder: *mut u64,
+    ) -> c_int;
     pub(crate) fn tvk_scan(
         store: *mut Handle,
         tx: u64,
@@ -103,6 +131,28 @@ extern "C" {
         key_length: usize,
         hi: *const u8,
         hi_length: usize,
+        rows: *mut Record,
+        limit: usize,
+        told: *mut u64,
+    ) -> c_int;
+    pub(crate) fn tvk_scan_back(
+        store: *mut Handle,
+        tx: u64,
+        lo: *const u8,
+        lo_length: usize,
+        hi: *const u8,
+        hi_length: usize,
+        rows: *mut Record,
+        limit: usize,
+        told: *mut u64,
+    ) -> c_int;
+    pub(crate) fn tvk_scan_before(
+        store: *mut Handle,
+        tx: u64,
+        lo: *const u8,
+        lo_length: usize,
+        key: *const u8,
+        key_length: usize,
         rows: *mut Record,
         limit: usize,
         told: *mut u64,

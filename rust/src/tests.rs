@@ -148,6 +148,30 @@ fn beside_a_map() -> Result<(), Error> {
 }
 
 #[test]
+fn back_and_away() -> Result<(), Error> {
+    let store = Store::open()?;
+    let mut tx = store.transaction()?;
+    assert_eq!(tx.load(pairs(0, 3000)), Ok(3000));
+    tx.set("k000007", "")?;
+    tx.set("k003000", "3000")?;
+    assert_eq!(tx.update([("k000009", "9"), ("k000008", "8"), ("k003000", "3000")]), Ok(3));
+    assert_eq!(tx.update(Vec::<(String, String)>::new()), Ok(0));
+    assert_eq!(tx.update([("b", "1"), ("b", "2")]).unwrap_err().error, Error::Twice(Key::new("b")?));
+    let keys: Result<Vec<Key>, Error> = tx.scan_back("", GREATEST).map(|row| row.map(|record| record.key)).collect();
+    let wanted: Result<Vec<Key>, Error> = (0..=3000).rev().map(|number| Key::new(format!("k{number:06}"))).collect();
+    assert_eq!(keys?, wanted?);
+    assert_eq!(tx.scan_back("b", "a").next(), Some(Err(Error::BadRange)));
+    assert_eq!(tx.remove_range("b", "a", 1), Err(Error::BadRange));
+    assert_eq!(tx.remove_range("", GREATEST, 0), Ok(0));
+    assert_eq!(tx.remove_range("k000001", "k002999", 1001), Ok(1001));
+    assert_eq!(tx.remove_range("k000001", "k002999", u64::MAX), Ok(1998));
+    assert_eq!(tx.remove_range("k000001", "k002999", u64::MAX), Ok(0));
+    let left: Result<Vec<Record>, Error> = tx.scan("", GREATEST).collect();
+    assert_eq!(left?, [Record::new("k000000", "0")?, Record::new("k003000", "3000")?]);
+    Ok(())
+}
+
+#[test]
 fn from_thread_to_thread() -> Result<(), Error> {
     let mut store = Store::open()?;
     for number in 0..8u8 {

@@ -2,15 +2,15 @@
 use Rattle.std.proofs.Common.{◌≡◌, ℕ, ◌+◌, ◌<◌, List, length, map, Bool, true, false, cond, refl, sym, ap, ◌∙◌}
 use Rattle.std.proofs.Common.{arith, subst, Option, Some, None}
 use Rattle.std.specs.Prelude.{◌==◌, ◌&&◌, ◌||◌, nat_le, not, filter}
-use Rattle.std.proofs.lemmas.Bool.{both_ways, false≢true, leb-false, not-false}
+use Rattle.std.proofs.lemmas.Bool.{both_ways, cond_both, false≢true, leb-false, not-false}
 use Rattle.am_record.specs.Limits.{max_ops, max_runs}
-use Rattle.am_record.specs.Refusals.{is_load, is_bounded}
-use Rattle.am_record.specs.Plain.{Draft, fresh, answers_on, is_orderly, left_on}
+use Rattle.am_record.specs.Refusals.{may_make_run, is_bounded}
+use Rattle.am_record.specs.Plain.{PlainMap, Draft, fresh, has_new, answers_on, is_orderly, left_on}
 use Rattle.am_record.specs.Asks.{lock_of, with_asked}
 use Rattle.am_record.specs.declared.lock.Lock.{Lock}
 use Rattle.am_record.specs.declared.step.Refusal.TheVariants.{NoSuchTx, NotRising, BadLimit, TooManyOps, TooManyRuns}
 use Rattle.am_record.specs.declared.step.Op.{Op}
-use Rattle.am_record.specs.declared.step.Op.TheVariants.{Load}
+use Rattle.am_record.specs.declared.step.Op.TheVariants.{Load, Put}
 use Rattle.am_record.specs.declared.step.Step.TheVariants.{Do, Commit}
 use Rattle.am_record.specs.declared.step.Reply.{Reply}
 use Rattle.am_record.specs.declared.step.Reply.TheVariants.{Committed, Done, Refused}
@@ -45,24 +45,29 @@ rest_of_none : {A : Type 0} (b : Bool) (x : A) (o : Option A) → cond b (Some x
 rest_of_none true x o h = absurd (cc)
 rest_of_none false x o h = h
 
--- a load to which no early refusal is due finds room for a run
-not_full : (full : Bool) (s : State) (t : ℕ) (op : Op) → due_early full s t op ≡ None → (is_load op && full) ≡ false
+-- what may make a run, and has no early refusal due, finds room for a run
+not_full : (full : Bool) (s : State) (t : ℕ) (op : Op) → due_early full s t op ≡ None →
+    (may_make_run op && full) ≡ false
 not_full full s t op none =
-    none_of_first (is_load op && full) TooManyRuns None
+    none_of_first (may_make_run op && full) TooManyRuns None
     (rest_of_none (not (is_bounded op)) BadLimit _
     (rest_of_none (not (is_orderly op)) NotRising _
     (rest_of_none (nat_le max_ops (length (body_in s.active t))) TooManyOps _
     (rest_of_none (not (is_open s.active t)) NoSuchTx _ none))))
 
 -- the runs that are counted behind it are as many as may be at most
-pub made_fits : (most_runs runs bound : ℕ) (s : State) (t : ℕ) (op : Op) (reply : Reply) →
+pub made_fits : (most_runs runs bound : ℕ) (s : State) (t : ℕ) (m : PlainMap) (op : Op) (reply : Reply) →
     due_early (is_full most_runs runs reply) s t op ≡ None → most_runs < bound → runs < bound →
-    runs + runs_made op reply < bound
-made_fits most_runs runs bound s t (Load pairs) Done none most few =
+    runs + runs_made m op reply < bound
+made_fits most_runs runs bound s t m (Load pairs) Done none most few =
     let less = leb-false most_runs runs (or_left_false (nat_le most_runs runs)
     (nat_le max_runs runs && false) (not_full (is_full most_runs runs Done) s t (Load pairs) none)) in
     omega (arith, less, most)
-made_fits most_runs runs bound s t _ _ none most few = omega (arith, few)
+made_fits most_runs runs bound s t m (Put pairs) Done none most few =
+    let less = leb-false most_runs runs (or_left_false (nat_le most_runs runs)
+    (nat_le max_runs runs && false) (not_full (is_full most_runs runs Done) s t (Put pairs) none)) in
+    cond_both (has_new pairs m) 1 0 (λ n. runs + n < bound) (λ _. omega (arith, less, most)) (λ _. omega (arith, few))
+made_fits most_runs runs bound s t m _ _ none most few = omega (arith, few)
 
 pub open_of_none : (full : Bool) (s : State) (t : ℕ) (op : Op) → due_early full s t op ≡ None →
     is_open s.active t ≡ true
@@ -106,7 +111,8 @@ module _ (full : Bool) (p : Checker) (here : Progress) (h : IsAt p here) (t : �
 
   pub takes_answer : (most_runs : ℕ) (p' : Checker) (reply : Reply) (n : ℕ) (asked : Option Lock) → n ≡ here.count →
       asked ≡ lock_of op → refused_of reply ≡ false → IsRightOf most_runs s (Do t op) reply → p'.begun ≡ p.begun →
-      p'.commits ≡ p.commits → p'.runs ≡ p.runs + runs_made op reply → map listed p'.active.items ≡ with_own t
+      p'.commits ≡ p.commits → p'.runs ≡ p.runs + runs_made (view s t).map op reply →
+      map listed p'.active.items ≡ with_own t
       (n, (op, reply)) (map listed p.active.items) →
       p'.locks ≡ with_locks p.locks t (with_asked (locks_in s.active t) asked) → p'.committed ≡ p.committed →
       TakesEvent most_runs here (Do t op) reply p'
@@ -119,6 +125,25 @@ module _ (full : Bool) (p : Checker) (here : Progress) (h : IsAt p here) (t : �
             (a ∙ ap (λ k. with_own t (k, (op, reply)) (map listed p.active.items)) position)
             (l ∙ ap (λ o. with_locks p.locks t (with_asked (locks_in s.active t) o)) lock) m);
       }
+
+-- what the transaction sees, by its operations that are kept
+pub seen_by : (p : Checker) (here : Progress) (h : IsAt p here) (all : List Active) → all ≡ p.active.items → (t : ℕ) →
+    is_open here.state.active t ≡ true → left_by_all (own_in (map listed all) t) p.committed ≡ view here.state t
+seen_by p here h all same t on =
+    (λ i. left_by_all (own_placed p here h all same t on i) (h.committed i)) ∙
+    ap (λ (done : List Answered). left_on (ops_of done) (fresh here.state.committed))
+    (sym (body_placed p here h all same t on))
+
+pub stays_fresh : (p : Checker) (here : Progress) → IsAt p here → p.committed ≡ fresh p.committed.map
+stays_fresh p here h = h.committed ∙ ap (λ (d : Draft). fresh d.map) (sym h.committed)
+
+-- the runs that are counted, as the machine counts them
+pub made_by : (full : Bool) (p : Checker) (here : Progress) (h : IsAt p here) (t : ℕ) (op : Op) (reply : Reply) →
+    due_early full here.state t op ≡ None → (all : List Active) → all ≡ p.active.items → (n : ℕ) →
+    n ≡ runs_made (left_by_all (own_in (map listed all) t) p.committed).map op reply →
+    n ≡ runs_made (view here.state t).map op reply
+made_by full p here h t op reply none all same n made = made ∙ ap (λ (d : Draft). runs_made d.map op reply)
+    (seen_by p here h all same t (open_of_none full here.state t op none))
 
 -- ---- commits
 

@@ -223,7 +223,8 @@ module _ (p p' : Checker) (bodies : Bodies) (s : State) (h : IsAtState p bodies 
   commits t b c r a l m = ended t b r a l (next s (Commits t)) refl refl refl c m
 
   pub answers : (n t : ℕ) (op : Op) (reply : Reply) → is_open s.active t ≡ true → p'.begun ≡ p.begun →
-      p'.commits ≡ p.commits → p'.runs ≡ p.runs + runs_made op reply → map listed p'.active.items ≡ with_own t
+      p'.commits ≡ p.commits → p'.runs ≡ p.runs + runs_made (view s t).map op reply →
+      map listed p'.active.items ≡ with_own t
       (n, (op, reply)) (map listed p.active.items) →
       p'.locks ≡ with_locks p.locks t (with_asked (locks_in s.active t) (lock_of op)) → p'.committed ≡ p.committed →
       IsAtState p' (λ u. bodies u ++ added n u (Answers t op reply)) (next s (Answers t op reply))
@@ -232,7 +233,7 @@ module _ (p p' : Checker) (bodies : Bodies) (s : State) (h : IsAtState p bodies 
       record {
         begun = b ∙ h.begun;
         commits = c ∙ h.commits;
-        runs = r ∙ ap (λ k. k + runs_made op reply) h.runs;
+        runs = r ∙ ap (λ k. k + runs_made (view s t).map op reply) h.runs;
         active = a ∙ ap (with_own t (n, (op, reply))) h.active ∙ list_extended bodies n t op reply s.active
             h.ordinary.rising;
         locks = l ∙ ap (λ table. with_locks table t (with_asked (locks_in s.active t) (lock_of op))) h.locks ∙

@@ -184,7 +184,7 @@ impl Checker {
         if let Err(event_fault) = verdict(asked, tx, &op, &reply) {
             return Err(event_fault);
         }
-        let made = runs_made(&op, &reply);
+        let made = runs_made(&mut self.committed, &self.active, tx, &op, &reply)?;
         keep_answer(
             &mut self.active,
             tx,

@@ -5,10 +5,10 @@ use Rattle.std.proofs.Common.{refl, sym, ap, ◌∙◌, arith}
 use Rattle.std.proofs.lemmas.Bool.{lt-leb}
 use Rattle.std.proofs.lemmas.List.{map-append}
 use Rattle.am_record.specs.Limits.{max_begun, max_runs}
-use Rattle.am_record.specs.Plain.{PlainMap, fresh, answer, left_on}
+use Rattle.am_record.specs.Plain.{PlainMap, fresh, answer, left, left_on}
 use Rattle.am_record.specs.Records.{Records}
 use Rattle.am_record.specs.Asks.{lock_of, locks_of}
-use Rattle.am_record.specs.Refusals.{is_load, is_one_too_many, lock_refusal, or_else}
+use Rattle.am_record.specs.Refusals.{may_make_run, is_one_too_many, lock_refusal, or_else}
 use Rattle.am_record.specs.declared.step.Op.{Op}
 use Rattle.am_record.specs.declared.step.Reply.{Reply}
 use Rattle.am_record.specs.declared.step.Reply.TheVariants.{Begun, Committed, Aborted, Refused}
@@ -40,7 +40,7 @@ module _ (b c : ℕ) (m : PlainMap) where
   abbrev inside : ℕ → List Op → Records → DialogueState
   inside r own staged = record { begun = b; commits = c; runs = r; committed = m; own = Some own; staged = staged }
 
-  due : (r : ℕ) (own : List Op) (staged : Records) (op : Op) → (is_load op && nat_le max_runs r) ≡ false
+  due : (r : ℕ) (own : List Op) (staged : Records) (op : Op) → (may_make_run op && nat_le max_runs r) ≡ false
       → refusal_due (inside r own staged) own op ≡ refusal_behind own op
   due r own staged op room =
       ap (λ early. or_else early (lock_refusal None (is_one_too_many (locks_of own) (lock_of op))))
@@ -48,13 +48,14 @@ module _ (b c : ℕ) (m : PlainMap) where
 
   -- how many runs there are behind an operation
   abbrev runs_by : Option Refusal → ℕ → List Op → Op → ℕ
-  runs_by None r own op = r + runs_made op (answer op (left_on own (fresh m)))
+  runs_by None r own op = r + runs_made (left own m) op (answer op (left_on own (fresh m)))
   runs_by (Some why) r own op = r
 
-  few_by : (why : Option Refusal) (r : ℕ) (own : List Op) (op : Op) → runs_by why r own op ≤ r + cond (is_load op) 1 0
+  few_by : (why : Option Refusal) (r : ℕ) (own : List Op) (op : Op) → runs_by why r own op ≤ r + cond (may_make_run op)
+      1 0
   few_by None r own op =
-      let few : runs_made op (answer op (left_on own (fresh m))) ≤ cond (is_load op) 1 0 =
-      made_few op (answer op (left_on own (fresh m))) in
+      let few : runs_made (left own m) op (answer op (left_on own (fresh m))) ≤ cond (may_make_run op) 1 0 =
+      made_few (left own m) op (answer op (left_on own (fresh m))) in
       omega (arith, few)
   few_by (Some why) r own op = omega arith
 
@@ -69,7 +70,7 @@ module _ (b c : ℕ) (m : PlainMap) where
   -- ---- one operation, with the records that it takes along
 
   module _ (r : ℕ) (own : List Op) (staged : Records) (op : Op)
-      (room : (is_load (with_staged staged op) && nat_le max_runs r) ≡ false) where
+      (room : (may_make_run (with_staged staged op) && nat_le max_runs r) ≡ false) where
     abbrev all : Op
     all = with_staged staged op
 
@@ -112,9 +113,10 @@ module _ (b c : ℕ) (m : PlainMap) where
       let left_over = staged_left staged op in
       let next_runs = runs_by (refusal_behind own whole_op) r own whole_op in
       let more = loads (ops_of left_over lines) in
-      let here : (is_load whole_op && nat_le max_runs r) ≡ false = room_for whole_op r more room in
-      let few : next_runs ≤ r + cond (is_load whole_op) 1 0 = few_by (refusal_behind own whole_op) r own whole_op in
-      let later : r + (cond (is_load whole_op) 1 0 + more) ≤ max_runs = room in
+      let here : (may_make_run whole_op && nat_le max_runs r) ≡ false = room_for whole_op r more room in
+      let few : next_runs ≤ r + cond (may_make_run whole_op) 1 0 = few_by (refusal_behind own whole_op) r own
+      whole_op in
+      let later : r + (cond (may_make_run whole_op) 1 0 + more) ≤ max_runs = room in
       let rest = all_said next_runs (own_behind own whole_op) left_over lines last (omega (arith, few, later)) in
       let rest_few : rest.runs ≤ next_runs + more = rest.few in
       record {

@@ -2,7 +2,7 @@
 use Rattle.std.specs.Prelude.{◌≡◌, ℕ, ◌+◌, ◌≤◌, List, [], ◌∷◌, ◌++◌, cond, map, Some, None}
 use Rattle.am_record.specs.Plain.{PlainMap}
 use Rattle.am_record.specs.Records.{Records}
-use Rattle.am_record.specs.Refusals.{is_load}
+use Rattle.am_record.specs.Refusals.{may_make_run}
 use Rattle.am_record.specs.declared.step.Op.{Op}
 use Rattle.am_record.specs.declared.step.Reply.{Reply}
 use Rattle.am_record.specs.declared.step.Reply.TheVariants.{Begun, Committed, Aborted}
@@ -38,7 +38,7 @@ waiting staged [] = staged
 waiting staged (Asks op ∷ lines) = waiting (staged_left staged op) lines
 waiting staged (Stages records ∷ lines) = waiting (staged_by staged records) lines
 
--- the operations that are asked for: a load takes with it what waits
+-- the operations that are asked for: a load or a put takes with it what waits
 abbrev pub ops_of : Records → List Line → List Op
 ops_of staged [] = []
 ops_of staged (Asks op ∷ lines) = with_staged staged op ∷ ops_of (staged_left staged op) lines
@@ -58,7 +58,7 @@ told_alone lines m = told [] lines (replies (ops_of [] lines) m)
 -- how many operations may make a run
 abbrev pub loads : List Op → ℕ
 loads [] = 0
-loads (op ∷ ops) = cond (is_load op) 1 0 + loads ops
+loads (op ∷ ops) = cond (may_make_run op) 1 0 + loads ops
 
 -- none is active, and nothing waits
 abbrev pub standing : ℕ → ℕ → ℕ → PlainMap → DialogueState

@@ -1,9 +1,11 @@
 -- Walks over the children of a node.
-use Rattle.std.proofs.Common.{◌≡◌, ◌≢◌, ℕ, zero, suc, ◌+◌, ◌<◌, ◌≤◌, false, List, [], ◌∷◌, ◌++◌, length, get_or, take}
-use Rattle.std.proofs.Common.{drop, Some, None, refl, sym, ap, ◌∙◌, subst, inl, inr, ◌⊎◌, append_assoc, append-nil}
+use Rattle.std.proofs.Common.{◌≡◌, ◌≢◌, ℕ, zero, suc, ◌+◌, ◌<◌, ◌≤◌, true, false, List, [], ◌∷◌, ◌++◌, length, get_or}
+use Rattle.std.proofs.Common.{take}
+use Rattle.std.proofs.Common.{drop, reverse, Some, None, refl, sym, ap, ◌∙◌, subst, inl, inr, ◌⊎◌, append_assoc}
+use Rattle.std.proofs.Common.{append-nil}
 use Rattle.std.proofs.Common.{add-one, arith}
-use Rattle.std.proofs.lemmas.List.{drop_all}
-use Rattle.std.proofs.Math.Seq.{drop-cons}
+use Rattle.std.proofs.lemmas.List.{drop_all, get_or_default, reverse-append}
+use Rattle.std.proofs.Math.Seq.{drop-cons, take-suc}
 use Rattle.std.specs.List.{AllByRecursion, slice_get}
 use Rattle.std.specs.declared.cmp.Ordering.{Ordering}
 use Rattle.std.specs.declared.cmp.Ordering.TheVariants.{Less, Equal, Greater}
@@ -14,6 +16,7 @@ use Rattle.am_record.specs.Plain.{Records}
 use Rattle.am_record.specs.declared.entry.Entry.{Entry}
 use Rattle.am_record.specs.EntryOrder.{Place, place_of, place_cmp, place_cmp-part}
 use Rattle.am_record.proofs.Lists.{AllByRecursion-map, AllByRecursion-append, AllByRecursion-at, AllByRecursion-drop}
+use Rattle.am_record.proofs.Orderings.{le_not_greater}
 use Rattle.am_record.proofs.PlaceOrder.{turned_greater}
 use Rattle.am_index.specs.Places.{AllBelow, NoneBelow, AllAbove}
 use Rattle.am_index.proofs.Batches.{take_both, all_reached-append, all_reached_none, all_reached_others}
@@ -26,7 +29,7 @@ use Rattle.am_btree.specs.Shape.{Shape}
 use Rattle.am_btree.specs.Separators.{separator_place, IsChildFor}
 use Rattle.am_btree.specs.Nodes.{all_entries, AreParted, AreChildren}
 use Rattle.am_btree.proofs.Children.{all_below_through, children_above, above_through}
-use Rattle.am_btree.proofs.ChildHalves.{AreParted-drop, all_entries_cut, parted_cut, parted_lengths}
+use Rattle.am_btree.proofs.ChildHalves.{AreParted-drop, all_entries-append, all_entries_cut, parted_cut, parted_lengths}
 use Rattle.am_btree.proofs.Seeks.{first_past, first_above, first_here, first_later, reached_less}
 
 -- ---- the first entry of several children
@@ -219,3 +222,46 @@ module _ (part : ℕ) (range : Interval) where
           greater Less n = absurd (cc)
           greater Equal n = absurd (cc)
           greater Greater n = refl
+
+  -- ---- from the highest key down
+
+  -- they end in the child for the range's greatest key
+  pub rows_up_to : (d : ℕ) (ls : List Separator) (ks : List Shape) → AreChildren d ls ks → (i : ℕ) →
+      IsChildFor ls part range.hi i →
+      rows_in (all_entries (take (i + 1) ks)) part range ≡ rows_in (all_entries ks) part range
+  rows_up_to d ls ks c i child =
+      ap (λ n. rows_in (all_entries (take n ks)) part range) (add-one i)
+      ∙ sym (append-nil (rows_in (all_entries (take (suc i) ks)) part range))
+      ∙ ap (λ l. rows_in (all_entries (take (suc i) ks)) part range ++ l)
+      (sym (rows_above part range (all_entries (drop (suc i) ks)) (above part range.hi d ls ks c i child)))
+      ∙ sym (rows_in-append part range (all_entries (take (suc i) ks)) (all_entries (drop (suc i) ks))) ∙
+      ap (λ es. rows_in es part range) (all_entries_cut (suc i) ks)
+
+  pub next_rows_back : (max : ℕ) (rows : Records) (ks : List Shape) (i : ℕ) (k : Shape) → i < length ks →
+      k ≡ get_or ks i k
+      → take max (take max (rows ++ reverse (rows_in k.entries part range)) ++
+      reverse (rows_in (all_entries (take i ks)) part range)) ≡
+      take max (rows ++ reverse (rows_in (all_entries (take (i + 1) ks)) part range))
+  next_rows_back max rows ks i k lt here =
+      let left = all_entries (take i ks) in
+      let whole : all_entries (take (i + 1) ks) ≡ left ++ k.entries =
+      ap (λ n. all_entries (take n ks)) (add-one i) ∙ ap all_entries (take-suc ks i k lt)
+      ∙ all_entries-append (take i ks) (get_or ks i k ∷ [])
+      ∙ ap (λ es. left ++ es) (append-nil (get_or ks i k).entries)
+      ∙ ap (λ (s : Shape). left ++ s.entries) (sym here) in
+      take_both max (rows ++ reverse (rows_in k.entries part range)) (reverse (rows_in left part range))
+      ∙ ap (take max) (append_assoc rows (reverse (rows_in k.entries part range)) (reverse (rows_in left part range)))
+      ∙ ap (λ l. take max (rows ++ l)) (sym (ap (λ es. reverse (rows_in es part range)) whole
+      ∙ ap reverse (rows_in-append part range left k.entries)
+      ∙ reverse-append (rows_in left part range) (rows_in k.entries part range)))
+
+  -- none is left where the child begins at or below the range
+  pub no_rows_before : (d : ℕ) (ls : List Separator) (ks : List Shape) → AreChildren d ls ks → (i : ℕ)
+      (l : Separator) → i < length ls → l ≡ get_or ls i l →
+      is_le (place_cmp (separator_place l) (part, range.lo)) ≡ true
+      → rows_in (all_entries (take i ks)) part range ≡ []
+  no_rows_before d ls ks c i l lt here begins =
+      rows_below part range (all_entries (take i ks)) (below_child part range.lo ls ks i c.parted lt
+      (inr (λ e. le_not_greater (place_cmp (separator_place (get_or ls i e)) (part, range.lo))
+      (ap (λ (m : Separator). is_le (place_cmp (separator_place m) (part, range.lo)))
+      (sym (here ∙ get_or_default ls i l e lt)) ∙ begins))))

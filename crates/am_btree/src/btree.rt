@@ -101,6 +101,16 @@ impl PartIndex for BTree {
         self.root.copy_rows(part, range, max, rows)
     }
 
+    fn copy_rows_back(
+        &self,
+        part: u32,
+        range: Range,
+        max: u64,
+        rows: &mut Vec<(Key, Value)>,
+    ) -> Result<(), NoMemory> {
+        self.root.copy_rows_back(part, range, max, rows)
+    }
+
     fn next_any(&self, part: u32, key: Key) -> Option<Entry> {
         self.root.seek(part, key, Start::At)
     }

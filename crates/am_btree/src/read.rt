@@ -1,9 +1,9 @@
 //! Walks from a place on.
 
-ghost use Rattle.std.specs.Prelude.{◌≡◌, ◌<◌, ◌≤◌, ◌++◌, length, take, slice_get, OnOk, OnErr, vec_capacity};
+ghost use Rattle.std.specs.Prelude.{◌≡◌, ◌<◌, ◌≤◌, ◌++◌, length, take, reverse, slice_get, OnOk, OnErr, vec_capacity};
 ghost use Rattle.am_index.specs.Entries.{first_such, next_ghost, IsRising};
 ghost use Rattle.am_index.specs.Content.{rows_in};
-ghost use Rattle.am_index.specs.Places.{IsUpperBound};
+ghost use Rattle.am_index.specs.Places.{IsLowerBound, IsUpperBound};
 ghost use Rattle.am_btree.specs.Rooms.{IsRoomed};
 ghost use Rattle.am_btree.specs.Seek.{first_from, all_such, IsStart};
 
@@ -148,6 +148,40 @@ impl Subtree {
             }
         }
     }
+
+    /// Appends the live records of the partition in the range, from the highest key down, until there are `max` rows.
+    /// It goes down once, and then from leaf to leaf.
+    ///
+    /// # Errors
+    /// NoMemory, where memory was refused.
+    pub(crate) fn copy_rows_back(
+        &self,
+        part: u32,
+        range: Range,
+        max: u64,
+        rows: &mut Vec<(Key, Value)>,
+    ) -> Result<(), NoMemory>
+        requires { length rows.old.items ≤ max }
+        ensures copied { OnOk result (rows.new.items ≡ take max
+            (rows.old.items ++ reverse (rows_in self.now.entries part range))) }
+        ensures room { vec_capacity rows.old ≤ vec_capacity rows.new }
+        ensures full { OnErr result (vec_capacity rows.old < max) }
+        ensures rising { IsRising self.now.entries }
+    {
+        match &self.node {
+            Node::Leaf(leaf) => copy_rows_back_in_leaf(leaf, part, range, max, rows),
+            Node::Inner(separators, children) => {
+                let end = separators.child_for(part, range.hi()) + 1;
+                for at in (0..end).rev() {
+                    children[at].copy_rows_back(part, range, max, rows)?;
+                    if rows.len() as u64 >= max || separators.get(at).is_reached(part, range.lo()) {
+                        return Ok(());
+                    }
+                }
+                Ok(())
+            }
+        }
+    }
 }
 
 // The entry of the leaf at the index, if there is one.
@@ -190,6 +224,18 @@ fn end_in_leaf(leaf: &RawLeaf, part: u32, key: Key) -> usize
     start_in_leaf(leaf, part, key, Start::Above)
 }
 
+// Where a walk from the leaf's end ends that goes no further down than the place. The first entry is asked first, since
+// most leaves begin behind the start of a range.
+fn end_back_in_leaf(leaf: &RawLeaf, part: u32, key: Key) -> usize
+    ensures ends { IsLowerBound leaf.now.entries part key result }
+    ensures rising { IsRising leaf.now.entries }
+{
+    if leaf.len() > 0 && leaf.cmp_at(0, part, key).is_ge() {
+        return 0;
+    }
+    start_in_leaf(leaf, part, key, Start::At)
+}
+
 // The first entry of the leaf from the place on.
 fn seek_in_leaf(leaf: &RawLeaf, part: u32, key: Key, start: Start) -> Option<Entry>
     ensures found { result ≡ first_from start leaf.now.entries part key }
@@ -224,8 +270,8 @@ fn read_on_in_leaf(leaf: &RawLeaf, part: u32, key: Key, start: Start, batch: &mu
     }
 }
 
-// Appends the live records of a leaf's partition in the range, until there are `max` rows. Where the range may go on
-// behind the leaf, room for rows of the next ones is got with it.
+// Appends the live records of a leaf's partition in the range, until there are `max` rows. The range may go on behind
+// the leaf.
 fn copy_rows_in_leaf(
     leaf: &RawLeaf,
     part: u32,
@@ -241,13 +287,7 @@ fn copy_rows_in_leaf(
 {
     let from = start_in_leaf(leaf, part, range.lo(), Start::At);
     let to = end_in_leaf(leaf, part, range.hi());
-    let wanted = max.saturating_sub(rows.len() as u64) as usize;
-    let ahead = if to == leaf.len() {
-        ROWS_AHEAD
-    } else {
-        to.saturating_sub(from)
-    };
-    rows.reserve(ahead.min(wanted))?;
+    reserve_rows(rows, max, to.saturating_sub(from), to == leaf.len())?;
     for at in from..to {
         if rows.len() as u64 >= max {
             return Ok(());
@@ -256,5 +296,53 @@ fn copy_rows_in_leaf(
             rows.push(leaf.record(at))?;
         }
     }
+    Ok(())
+}
+
+// The same from the highest key down. The range may go on before the leaf.
+fn copy_rows_back_in_leaf(
+    leaf: &RawLeaf,
+    part: u32,
+    range: Range,
+    max: u64,
+    rows: &mut Vec<(Key, Value)>,
+) -> Result<(), NoMemory>
+    requires { length rows.old.items ≤ max }
+    ensures copied { OnOk result (rows.new.items ≡ take max
+        (rows.old.items ++ reverse (rows_in leaf.now.entries part range))) }
+    ensures room { vec_capacity rows.old ≤ vec_capacity rows.new }
+    ensures full { OnErr result (vec_capacity rows.old < max) }
+    ensures rising { IsRising leaf.now.entries }
+{
+    let from = end_back_in_leaf(leaf, part, range.lo());
+    let to = end_in_leaf(leaf, part, range.hi());
+    reserve_rows(rows, max, to.saturating_sub(from), from == 0)?;
+    for at in (from..to).rev() {
+        if rows.len() as u64 >= max {
+            return Ok(());
+        }
+        if !leaf.is_ghost(at) {
+            rows.push(leaf.record(at))?;
+        }
+    }
+    Ok(())
+}
+
+// Gets room for so many rows of a leaf, where no more than `max` are wanted. Where the range may go on in the next
+// leaf, it is room for rows of the next ones.
+fn reserve_rows(
+    rows: &mut Vec<(Key, Value)>,
+    max: u64,
+    found: usize,
+    goes_on: bool,
+) -> Result<(), NoMemory>
+    requires { length rows.old.items ≤ max }
+    ensures same { rows.new.items ≡ rows.old.items }
+    ensures room { vec_capacity rows.old ≤ vec_capacity rows.new }
+    ensures full { OnErr result (vec_capacity rows.old < max) }
+{
+    let wanted = max.saturating_sub(rows.len() as u64) as usize;
+    let ahead = if goes_on { ROWS_AHEAD } else { found };
+    rows.reserve(ahead.min(wanted))?;
     Ok(())
 }

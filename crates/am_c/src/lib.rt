@@ -2,6 +2,7 @@
 #![tactic(auto)]
 
 mod loads;
+mod puts;
 mod ranges;
 mod records;
 mod store;

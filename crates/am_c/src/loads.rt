@@ -6,8 +6,11 @@ ghost use Rattle.am_c_steps.specs.LoadAnswers.{without_key, load_key_told};
 ghost use Rattle.am_c_steps.specs.Statuses.{status, number};
 ghost use Rattle.am_c_store.specs.Loads.{TellsRuns, TellsText};
 ghost use Rattle.am_c_steps.specs.Structs.{structs_given};
+ghost use Rattle.am_c_steps.specs.declared.bringing.Bringing.TheVariants.{Load};
 
-use am_c_steps::{KeyText, Layout, Record, Structs, pairs_asked, structs_asked, text_asked};
+use am_c_steps::{
+    Bringing, KeyText, Layout, Record, Structs, pairs_asked, structs_asked, text_asked,
+};
 use am_c_store::{Handle, tell_runs};
 use std::alloc::Global;
 
@@ -23,12 +26,12 @@ pub extern "C" fn tiuvrokk_load_sorting(
     loaded: &mut u64,
     told: &mut u64,
 ) -> u32
-    ensures { TellsRuns store.old.held tx (pairs_given records.now) store.new.held
+    ensures { TellsRuns store.old.held tx Load (pairs_given records.now) store.new.held
         (λ n answer. (result ≡ status (without_key answer)) × (told.new ≡ number (without_key answer))
         × (key.new ≡ load_key_told answer key.old) × (loaded.new ≡ n)) }
 {
     let pairs = pairs_asked(alloc, records);
-    tell_runs(alloc, store, tx, pairs, key, loaded, told)
+    tell_runs(alloc, store, tx, Bringing::Load, pairs, key, loaded, told)
 }
 
 /// The same of so many structs of the caller's own, one behind another. Those that stand there whole and all have a
@@ -45,15 +48,24 @@ pub extern "C" fn tiuvrokk_load_structs(
     loaded: &mut u64,
     told: &mut u64,
 ) -> u32
-    ensures { TellsRuns store.old.held tx (structs_given layout.now structs.now count) store.new.held
+    ensures { TellsRuns store.old.held tx Load (structs_given layout.now structs.now count) store.new.held
         (λ n answer. (result ≡ status (without_key answer)) × (told.new ≡ number (without_key answer))
         × (key.new ≡ load_key_told answer key.old) × (loaded.new ≡ n)) }
 {
     match Structs::whole(structs, count, layout) {
-        Some(whole) => tell_runs(alloc, store, tx, Ok(whole), key, loaded, told),
+        Some(whole) => tell_runs(
+            alloc,
+            store,
+            tx,
+            Bringing::Load,
+            Ok(whole),
+            key,
+            loaded,
+            told,
+        ),
         None => {
             let pairs = structs_asked(alloc, structs, count, layout);
-            tell_runs(alloc, store, tx, pairs, key, loaded, told)
+            tell_runs(alloc, store, tx, Bringing::Load, pairs, key, loaded, told)
         }
     }
 }
@@ -70,10 +82,10 @@ pub extern "C" fn tiuvrokk_load_text(
     loaded: &mut u64,
     told: &mut u64,
 ) -> u32
-    ensures { TellsText store.old.held tx text.now line.new store.new.held
+    ensures { TellsText store.old.held tx Load text.now line.new store.new.held
         (λ n answer. (result ≡ status (without_key answer)) × (told.new ≡ number (without_key answer))
         × (key.new ≡ load_key_told answer key.old) × (loaded.new ≡ n)) }
 {
     let pairs = text_asked(alloc, text, line);
-    tell_runs(alloc, store, tx, pairs, key, loaded, told)
+    tell_runs(alloc, store, tx, Bringing::Load, pairs, key, loaded, told)
 }

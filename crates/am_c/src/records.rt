@@ -1,14 +1,14 @@
 //! The calls of single records.
 
 ghost use Rattle.std.specs.Prelude.{◌≡◌};
-ghost use Rattle.am_c_steps.specs.AskedSteps.{get_asked, insert_asked, replace_asked, delete_asked};
+ghost use Rattle.am_c_steps.specs.AskedSteps.{get_asked, insert_asked, replace_asked, set_asked, delete_asked};
 ghost use Rattle.am_c_steps.specs.AnswerParts.{value_told};
 ghost use Rattle.am_c_steps.specs.Statuses.{status, number};
 ghost use Rattle.am_c_store.specs.StoreSteps.{Tells};
 
 use am_c_steps::{
-    ValueText, delete_asked, get_asked, insert_asked, number_told, replace_asked, status_told,
-    tell_value,
+    ValueText, delete_asked, get_asked, insert_asked, number_told, replace_asked, set_asked,
+    status_told, tell_value,
 };
 use am_c_store::{Handle, take_step, tell};
 use std::alloc::Global;
@@ -62,6 +62,22 @@ pub extern "C" fn tiuvrokk_replace(
         (λ answer. (result ≡ status answer) × (told.new ≡ number answer)) }
 {
     tell(alloc, store, replace_asked(tx, key, value), told)
+}
+
+/// Sets a record, whether or not its key has one.
+#[unsafe(no_mangle)]
+pub extern "C" fn tiuvrokk_set(
+    alloc: Global,
+    store: &mut Handle,
+    tx: u64,
+    key: &[u8],
+    value: &[u8],
+    told: &mut u64,
+) -> u32
+    ensures { Tells store.old.held (set_asked tx key.now value.now) store.new.held
+        (λ answer. (result ≡ status answer) × (told.new ≡ number answer)) }
+{
+    tell(alloc, store, set_asked(tx, key, value), told)
 }
 
 /// Takes a record away.

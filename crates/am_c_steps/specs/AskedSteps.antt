@@ -3,12 +3,15 @@ use Rattle.std.specs.Prelude.{◌≡◌, ◌⊎◌, ℕ, ◌==◌, cond, List, [
 use Rattle.am_record.specs.OrderedKey.{OrderedKey}
 use Rattle.am_record.specs.declared.lock.Mode.{Mode}
 use Rattle.am_record.specs.declared.lock.Mode.TheVariants.{Shared, Exclusive}
-use Rattle.am_record.specs.declared.step.Op.TheVariants.{Get, Scan, Insert, Replace, Delete, Load, Lock}
+use Rattle.am_record.specs.declared.step.Op.TheVariants.{Get, Scan, ScanBack, Insert, Replace, Set, Delete}
+use Rattle.am_record.specs.declared.step.Op.TheVariants.{DeleteRange, Lock}
 use Rattle.am_record.specs.declared.step.Step.{Step}
 use Rattle.am_record.specs.declared.step.Step.TheVariants.{Do, Clean}
+use Rattle.am_c_steps.specs.declared.bringing.Bringing.{Bringing}
 use Rattle.am_c_steps.specs.declared.status.Status.{Status}
 use Rattle.am_c_steps.specs.declared.status.Status.TheVariants.{BadMode, NoMemory}
 use Rattle.am_c_steps.specs.declared.text.Record.{Record}
+use Rattle.am_c_steps.specs.Bringings.{brings}
 use Rattle.am_c_steps.specs.Texts.{of_both, key_given, value_given, range_given, pair_given}
 
 abbrev pub of_one : {X Z : Type 0} → (X → Z) → Result X Status → Result Z Status
@@ -24,11 +27,20 @@ insert_asked tx key value = of_both (λ k v. Ok (Do tx (Insert k v))) (key_given
 abbrev pub replace_asked : ℕ → List ℕ → List ℕ → Result Step Status
 replace_asked tx key value = of_both (λ k v. Ok (Do tx (Replace k v))) (key_given key) (value_given value)
 
+abbrev pub set_asked : ℕ → List ℕ → List ℕ → Result Step Status
+set_asked tx key value = of_both (λ k v. Ok (Do tx (Set k v))) (key_given key) (value_given value)
+
 abbrev pub delete_asked : ℕ → List ℕ → Result Step Status
 delete_asked tx key = of_one (λ k. Do tx (Delete k)) (key_given key)
 
 abbrev pub scan_asked : ℕ → List ℕ → List ℕ → ℕ → Result Step Status
 scan_asked tx lo hi max = of_one (λ range. Do tx (Scan range max)) (range_given lo hi)
+
+abbrev pub scan_back_asked : ℕ → List ℕ → List ℕ → ℕ → Result Step Status
+scan_back_asked tx lo hi max = of_one (λ range. Do tx (ScanBack range max)) (range_given lo hi)
+
+abbrev pub delete_range_asked : ℕ → List ℕ → List ℕ → ℕ → Result Step Status
+delete_range_asked tx lo hi max = of_one (λ range. Do tx (DeleteRange range max)) (range_given lo hi)
 
 -- 0 is shared, 1 exclusive
 abbrev pub mode_given : ℕ → Result Mode Status
@@ -50,10 +62,10 @@ IsCopied given copied = (copied ≡ given) ⊎ (copied ≡ Err NoMemory)
 abbrev pub clean_asked : List ℕ → List ℕ → ℕ → Result Step Status
 clean_asked lo hi limit = of_one (λ range. Clean range limit) (range_given lo hi)
 
--- all of the records in a load, or what is wrong with them, or memory is refused for them
-abbrev pub IsLoadAsked : ℕ → List Record → Result Step Status → Type 0
-IsLoadAsked tx records asked =
-    (asked ≡ of_one (λ pairs. Do tx (Load pairs)) (pairs_given records)) ⊎ (asked ≡ Err NoMemory)
+-- all of the records are brought in, or what is wrong with them, or memory is refused for them
+abbrev pub AreRecordsAsked : ℕ → Bringing → List Record → Result Step Status → Type 0
+AreRecordsAsked tx bringing records asked =
+    (asked ≡ of_one (λ pairs. Do tx (brings bringing pairs)) (pairs_given records)) ⊎ (asked ≡ Err NoMemory)
 
 -- the pairs of all records were made, or what is wrong was told, or memory was refused
 abbrev pub IsAdded : List Record → Result (Unit {0}) Status → List (OrderedKey × List ℕ) → Type 0

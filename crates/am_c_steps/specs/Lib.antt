@@ -1,5 +1,6 @@
 pub mod AnswerParts
 pub mod AskedSteps
+pub mod Bringings
 pub mod Lines
 pub mod LoadAnswers
 pub mod Statuses

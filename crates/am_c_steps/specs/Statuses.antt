@@ -6,7 +6,7 @@ use Rattle.am_record.specs.declared.step.Refusal.TheVariants.{TooManyRuns, NotRi
 use Rattle.am_record.specs.declared.step.Reply.{Reply}
 use Rattle.am_record.specs.declared.step.Reply.TheVariants.{Begun, Done, Found, Absent, Rows, Exists, Missing}
 use Rattle.am_record.specs.declared.step.Reply.TheVariants.{Committed, Aborted, Moved, MergeDone, Ended, Idle, Cleaned}
-use Rattle.am_record.specs.declared.step.Reply.TheVariants.{NoMark, Refused}
+use Rattle.am_record.specs.declared.step.Reply.TheVariants.{Deleted, NoMark, Refused}
 use Rattle.am_c_steps.specs.declared.status.Status.{Status}
 use Rattle.am_c_steps.specs.declared.status.Status.TheVariants as is
 
@@ -57,6 +57,7 @@ reply_status Absent = is.Absent
 reply_status (Rows rows) = is.Fine
 reply_status (Exists k) = is.Exists
 reply_status Missing = is.Absent
+reply_status (Deleted n) = is.Fine
 reply_status (Committed n) = is.Fine
 reply_status Aborted = is.Fine
 reply_status (Moved n run) = is.Fine
@@ -78,6 +79,7 @@ number_of (Committed n) = n
 number_of (Moved n run) = n
 number_of (Ended k t) = t
 number_of (Cleaned n) = n
+number_of (Deleted n) = n
 number_of (Refused why) = refusal_number why
 number_of reply = 0
 

@@ -1,10 +1,12 @@
 //! The steps that C asks for.
 
 ghost use Rattle.std.specs.Prelude.{◌≡◌, []};
-ghost use Rattle.am_c_steps.specs.AskedSteps.{get_asked, insert_asked, replace_asked, delete_asked, scan_asked};
+ghost use Rattle.am_c_steps.specs.AskedSteps.{get_asked, insert_asked, replace_asked, set_asked, delete_asked};
+ghost use Rattle.am_c_steps.specs.AskedSteps.{scan_asked, scan_back_asked, delete_range_asked};
 ghost use Rattle.am_c_steps.specs.AskedSteps.{mode_given, lock_asked, clean_asked};
-ghost use Rattle.am_c_steps.specs.AskedSteps.{pairs_given, IsLoadAsked, IsCopied, IsAdded};
+ghost use Rattle.am_c_steps.specs.AskedSteps.{pairs_given, AreRecordsAsked, IsCopied, IsAdded};
 
+use crate::bringing::Bringing;
 use crate::status::Status;
 use crate::text::{Record, key_given, range_given, value_given};
 use am_record::{Key, Lock, Mode, Op, Records, Step, Value};
@@ -31,6 +33,13 @@ pub fn replace_asked(tx: u64, key: &[u8], value: &[u8]) -> Result<Step, Status>
     Ok(Step::Do(tx, Op::Replace(key_given(key)?, value_given(value)?)))
 }
 
+/// Sets a record, whether or not its key has one.
+pub fn set_asked(tx: u64, key: &[u8], value: &[u8]) -> Result<Step, Status>
+    ensures { result ≡ set_asked tx key.now value.now }
+{
+    Ok(Step::Do(tx, Op::Set(key_given(key)?, value_given(value)?)))
+}
+
 /// Takes a record away.
 pub fn delete_asked(tx: u64, key: &[u8]) -> Result<Step, Status>
     ensures { result ≡ delete_asked tx key.now }
@@ -43,6 +52,20 @@ pub fn scan_asked(tx: u64, lo: &[u8], hi: &[u8], max: u64) -> Result<Step, Statu
     ensures { result ≡ scan_asked tx lo.now hi.now max }
 {
     Ok(Step::Do(tx, Op::Scan(range_given(lo, hi)?, max)))
+}
+
+/// Reads the last records of a range, from the highest key down, as many as are asked for at most.
+pub fn scan_back_asked(tx: u64, lo: &[u8], hi: &[u8], max: u64) -> Result<Step, Status>
+    ensures { result ≡ scan_back_asked tx lo.now hi.now max }
+{
+    Ok(Step::Do(tx, Op::ScanBack(range_given(lo, hi)?, max)))
+}
+
+/// Takes the first records of a range away, as many as are asked for at most.
+pub fn delete_range_asked(tx: u64, lo: &[u8], hi: &[u8], max: u64) -> Result<Step, Status>
+    ensures { result ≡ delete_range_asked tx lo.now hi.now max }
+{
+    Ok(Step::Do(tx, Op::DeleteRange(range_given(lo, hi)?, max)))
 }
 
 fn mode_given(mode: u32) -> Result<Mode, Status>
@@ -73,12 +96,17 @@ pub fn clean_asked(lo: &[u8], hi: &[u8], limit: u64) -> Result<Step, Status>
     Ok(Step::Clean(range_given(lo, hi)?, limit))
 }
 
-/// Adds records as a new run.
-pub fn load_asked(alloc: Global, tx: u64, records: &[Record]) -> Result<Step, Status>
-    ensures { IsLoadAsked tx records.now result }
+/// Brings records in.
+pub fn records_asked(
+    alloc: Global,
+    tx: u64,
+    bringing: Bringing,
+    records: &[Record],
+) -> Result<Step, Status>
+    ensures { AreRecordsAsked tx bringing records.now result }
 {
     match pairs_asked(alloc, records) {
-        Ok(pairs) => Ok(Step::Do(tx, Op::Load(pairs))),
+        Ok(pairs) => Ok(Step::Do(tx, bringing.op(pairs))),
         Err(why) => Err(why),
     }
 }

@@ -86,6 +86,7 @@ fn status_of(reply: &Reply) -> Status
         Reply::Rows(_) => Status::Fine,
         Reply::Exists(_) => Status::Exists,
         Reply::Missing => Status::Absent,
+        Reply::Deleted(_) => Status::Fine,
         Reply::Committed(_) => Status::Fine,
         Reply::Aborted => Status::Fine,
         Reply::Moved(_, _) => Status::Fine,
@@ -116,7 +117,7 @@ fn refusal_status(why: Refusal) -> Status
 }
 
 // The number that goes with a reply: of the transaction that was begun, of the commit, of the transaction that is in
-// the way, or how many entries were worked off or cleaned; else 0.
+// the way, or how many entries were worked off or cleaned, or records deleted; else 0.
 fn number_of(reply: &Reply) -> u64
     ensures { result ≡ number_of reply.now }
 {
@@ -126,6 +127,7 @@ fn number_of(reply: &Reply) -> u64
         Reply::Moved(entries, _) => *entries,
         Reply::Ended(_, tx) => *tx,
         Reply::Cleaned(ghosts) => *ghosts,
+        Reply::Deleted(records) => *records,
         Reply::Refused(Refusal::Busy(tx)) => *tx,
         _ => 0,
     }

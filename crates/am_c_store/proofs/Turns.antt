@@ -6,28 +6,31 @@ use Rattle.std.proofs.lemmas.Option.{none-some}
 use Rattle.std.proofs.lemmas.List.{take-append-drop}
 use Rattle.std.proofs.lemmas.List.Sorted.{length_permutation}
 use Rattle.am_record.specs.Plain.{Records}
-use Rattle.am_record.specs.declared.step.Op.TheVariants.{Load}
 use Rattle.am_record.specs.declared.step.Step.TheVariants.{Do}
 use Rattle.am_record.specs.declared.step.Reply.{Reply}
 use Rattle.am_record.specs.declared.step.Reply.TheVariants.{Done, Refused}
 use Rattle.am_record.specs.declared.step.Refusal.TheVariants.{NoMemory}
 use Rattle.am_runs.specs.Cuts.{AreRunsOf, records_of}
 use Rattle.am_sound.specs.StoreState.{StoreState}
+use Rattle.am_c_steps.specs.declared.bringing.Bringing.{Bringing}
+use Rattle.am_c_steps.specs.Bringings.{brings}
 use Rattle.am_c_store.specs.StoreSteps.{Takes}
 use Rattle.am_c_store.specs.Loads.{GoesOn, LoadInTurn}
 
 -- the runs in front of the rest were loaded, which have so many records: loading the rest is loading all
-pub record IsLoading (tx : ℕ) (all : List Records) (old : StoreState) (rest : List Records) (records : ℕ)
+pub record IsLoading (tx : ℕ) (bringing : Bringing) (all : List Records) (old : StoreState) (rest : List Records)
+    (records : ℕ)
     (p : StoreState) : Type 0 where
-  pub on : (more : ℕ) (reply : Reply) (new : StoreState) → LoadInTurn tx rest p more reply new →
-      LoadInTurn tx all old (records + more) reply new
+  pub on : (more : ℕ) (reply : Reply) (new : StoreState) → LoadInTurn tx bringing rest p more reply new →
+      LoadInTurn tx bringing all old (records + more) reply new
   pub sum : records + length (records_of rest) ≡ length (records_of all)
 
-pub starts : (tx : ℕ) (all rest : List Records) (p : StoreState) → rest ≡ all → IsLoading tx all p rest 0 p
-starts tx all rest p is = record {
+pub starts : (tx : ℕ) (bringing : Bringing) (all rest : List Records) (p : StoreState) → rest ≡ all →
+    IsLoading tx bringing all p rest 0 p
+starts tx bringing all rest p is = record {
   on = λ more reply new turns. let same : more ≡ 0 + more = omega arith in
-      subst (λ (n : ℕ). LoadInTurn tx all p n reply new) same
-      (subst (λ (rs : List Records). LoadInTurn tx rs p more reply new) is turns);
+      subst (λ (n : ℕ). LoadInTurn tx bringing all p n reply new) same
+      (subst (λ (rs : List Records). LoadInTurn tx bringing rs p more reply new) is turns);
   sum = omega (arith, ap (λ (rs : List Records). length (records_of rs)) is);
 }
 
@@ -42,9 +45,9 @@ first_of : (rest : List Records) (run : Records) → Some run ≡ slice_get rest
 first_of [] run is = cc
 first_of (r ∷ rest) run is = let same : r ≡ run = cc in ap (λ (s : Records). s ∷ rest) same
 
-module _ (tx : ℕ) (all rest : List Records) (old p q : StoreState) (records : ℕ) (run : Records)
-    (reply : Reply) (h : IsLoading tx all old rest records p) (next : Some run ≡ slice_get rest 0)
-    (takes : Takes p (Do tx (Load run)) reply q) where
+module _ (tx : ℕ) (bringing : Bringing) (all rest : List Records) (old p q : StoreState) (records : ℕ) (run : Records)
+    (reply : Reply) (h : IsLoading tx bringing all old rest records p) (next : Some run ≡ slice_get rest 0)
+    (takes : Takes p (Do tx (brings bringing run)) reply q) where
   is : rest ≡ run ∷ drop 1 rest
   is = first_of rest run next
 
@@ -57,15 +60,20 @@ module _ (tx : ℕ) (all rest : List Records) (old p q : StoreState) (records : 
     length-append run (records_of (drop 1 rest)),
   )
 
-  pub goes_on : reply ≡ Done → IsLoading tx all old (drop 1 rest) (records + length run) q
+  pub goes_on : reply ≡ Done → IsLoading tx bringing all old (drop 1 rest) (records + length run) q
   goes_on done = record {
     on = λ more last new turns.
-        let first : LoadInTurn tx (run ∷ drop 1 rest) p (length run + more) last new =
-        inr (Done, q, subst (λ (r : Reply). Takes p (Do tx (Load run)) r q) done takes, (more, refl, turns)) in
+        let first : LoadInTurn tx bringing (run ∷ drop 1 rest) p (length run + more) last new =
+        inr (
+          Done,
+          q,
+          subst (λ (r : Reply). Takes p (Do tx (brings bringing run)) r q) done takes,
+          (more, refl, turns),
+        ) in
         let all_more : records + (length run + more) ≡ records + length run + more = omega arith in
-        subst (λ (n : ℕ). LoadInTurn tx all old n last new) all_more
+        subst (λ (n : ℕ). LoadInTurn tx bringing all old n last new) all_more
         (h.on (length run + more) last new
-        (subst (λ (rs : List Records). LoadInTurn tx rs p (length run + more) last new) (sym is) first));
+        (subst (λ (rs : List Records). LoadInTurn tx bringing rs p (length run + more) last new) (sym is) first));
     sum = omega (
       arith,
       h.sum,
@@ -74,30 +82,32 @@ module _ (tx : ℕ) (all rest : List Records) (old p q : StoreState) (records : 
     );
   }
 
-  pub ends : reply ≢ Done → LoadInTurn tx all old records reply q
+  pub ends : reply ≢ Done → LoadInTurn tx bringing all old records reply q
   ends not =
-      let first : LoadInTurn tx (run ∷ drop 1 rest) p 0 reply q =
-      inr (reply, q, takes, refusal run (LoadInTurn tx (drop 1 rest)) reply q not) in
+      let first : LoadInTurn tx bringing (run ∷ drop 1 rest) p 0 reply q =
+      inr (reply, q, takes, refusal run (LoadInTurn tx bringing (drop 1 rest)) reply q not) in
       let none : records + 0 ≡ records = omega arith in
-      subst (λ (n : ℕ). LoadInTurn tx all old n reply q) none
-      (h.on 0 reply q (subst (λ (rs : List Records). LoadInTurn tx rs p 0 reply q) (sym is) first))
+      subst (λ (n : ℕ). LoadInTurn tx bringing all old n reply q) none
+      (h.on 0 reply q (subst (λ (rs : List Records). LoadInTurn tx bringing rs p 0 reply q) (sym is) first))
 
 -- there is a run left, and no room for it
-pub has_no_room : (tx : ℕ) (all rest : List Records) (old p : StoreState) (records : ℕ) →
-    IsLoading tx all old rest records p → 0 < length rest → LoadInTurn tx all old records (Refused NoMemory) p
-has_no_room tx all [] old p records h left = absurd (omega (arith, left))
-has_no_room tx all (run ∷ rest) old p records h left =
+pub has_no_room : (tx : ℕ) (bringing : Bringing) (all rest : List Records) (old p : StoreState) (records : ℕ) →
+    IsLoading tx bringing all old rest records p → 0 < length rest → LoadInTurn tx bringing all old records
+    (Refused NoMemory) p
+has_no_room tx bringing all [] old p records h left = absurd (omega (arith, left))
+has_no_room tx bringing all (run ∷ rest) old p records h left =
     let none : records + 0 ≡ records = omega arith in
-    subst (λ (n : ℕ). LoadInTurn tx all old n (Refused NoMemory) p) none
+    subst (λ (n : ℕ). LoadInTurn tx bringing all old n (Refused NoMemory) p) none
     (h.on 0 (Refused NoMemory) p (inl (refl, refl, refl)))
 
-pub is_over : (tx : ℕ) (all rest : List Records) (old p : StoreState) (records : ℕ) →
-    IsLoading tx all old rest records p → None ≡ slice_get rest 0 → LoadInTurn tx all old records Done p
-is_over tx all [] old p records h is =
+pub is_over : (tx : ℕ) (bringing : Bringing) (all rest : List Records) (old p : StoreState) (records : ℕ) →
+    IsLoading tx bringing all old rest records p → None ≡ slice_get rest 0 → LoadInTurn tx bringing all old records Done
+    p
+is_over tx bringing all [] old p records h is =
     let none : records + 0 ≡ records = omega arith in
-    subst (λ (n : ℕ). LoadInTurn tx all old n Done p) none
+    subst (λ (n : ℕ). LoadInTurn tx bringing all old n Done p) none
     (h.on 0 Done p (refl, refl, refl))
-is_over tx all (run ∷ rest) old p records h is = absurd (none-some run is)
+is_over tx bringing all (run ∷ rest) old p records h is = absurd (none-some run is)
 
 -- the runs have as many records as were cut
 pub records_of_cut : (n : ℕ) (records : Records) (runs : List Records) → AreRunsOf n records runs →

@@ -1,18 +1,19 @@
--- Records in any order: the runs that they are cut into, and loading these in turn.
+-- Records in any order: the runs that they are cut into, and bringing these in in turn.
 use Rattle.std.specs.Prelude.{◌≡◌, ◌⊎◌, ◌+◌, ℕ, List, [], ◌∷◌, length, Option, None, Some, Result, Ok, Err}
 use Rattle.am_record.specs.Limits.{max_run_records}
 use Rattle.am_record.specs.Plain.{Records}
-use Rattle.am_record.specs.declared.step.Op.TheVariants.{Load}
 use Rattle.am_record.specs.declared.step.Step.TheVariants.{Do}
 use Rattle.am_record.specs.declared.step.Reply.{Reply}
 use Rattle.am_record.specs.declared.step.Reply.TheVariants.{Done, Refused}
 use Rattle.am_record.specs.declared.step.Refusal.TheVariants.{NoMemory}
 use Rattle.am_runs.specs.Cuts.{keys_of, IsCut, IsLeastTwice}
 use Rattle.am_sound.specs.StoreState.{StoreState}
+use Rattle.am_c_steps.specs.declared.bringing.Bringing.{Bringing}
 use Rattle.am_c_steps.specs.declared.load_answers.LoadFailure.{LoadFailure}
 use Rattle.am_c_steps.specs.declared.load_answers.LoadFailure.TheVariants.{Twice, Other}
 use Rattle.am_c_steps.specs.declared.status.Status.{Status}
 use Rattle.am_c_steps.specs.declared.status.Status.TheVariants as is
+use Rattle.am_c_steps.specs.Bringings.{brings}
 use Rattle.am_c_steps.specs.Lines.{IsRead}
 use Rattle.am_c_store.specs.StoreSteps.{Takes}
 
@@ -49,46 +50,47 @@ abbrev pub HasNoRoom : StoreState → ℕ → Reply → StoreState → Type 0
 HasNoRoom old loaded reply new = (loaded ≡ 0) × (reply ≡ Refused NoMemory) × (new ≡ old)
 
 -- the store took the next run by a step of its own, and what comes behind that
-abbrev pub TakesRun : ℕ → Records → (StoreState → ℕ → Reply → StoreState → Type 0) → StoreState → ℕ → Reply →
+abbrev pub TakesRun : ℕ → Bringing → Records → (StoreState → ℕ → Reply → StoreState → Type 0) → StoreState → ℕ → Reply →
     StoreState → Type 0
-TakesRun tx run Others old loaded reply new =
-    (first : Reply) × (p : StoreState) × Takes old (Do tx (Load run)) first p
+TakesRun tx bringing run Others old loaded reply new =
+    (first : Reply) × (p : StoreState) × Takes old (Do tx (brings bringing run)) first p
     × GoesOn run Others first p loaded reply new
 
--- the runs are loaded in turn, until one is refused or has no room: `loaded` records stand in front of that one, and
--- the reply is the last
-abbrev pub LoadInTurn : ℕ → List Records → StoreState → ℕ → Reply → StoreState → Type 0
-LoadInTurn tx [] old loaded reply new = (loaded ≡ 0) × (reply ≡ Done) × (new ≡ old)
-LoadInTurn tx (run ∷ runs) old loaded reply new =
-    HasNoRoom old loaded reply new ⊎ TakesRun tx run (LoadInTurn tx runs) old loaded reply new
+-- the runs are brought in in turn, until one is refused or has no room: `loaded` records stand in front of that one,
+-- and the reply is the last
+abbrev pub LoadInTurn : ℕ → Bringing → List Records → StoreState → ℕ → Reply → StoreState → Type 0
+LoadInTurn tx bringing [] old loaded reply new = (loaded ≡ 0) × (reply ≡ Done) × (new ≡ old)
+LoadInTurn tx bringing (run ∷ runs) old loaded reply new =
+    HasNoRoom old loaded reply new ⊎ TakesRun tx bringing run (LoadInTurn tx bringing runs) old loaded reply new
 
 -- the runs of what was given were loaded so
-pub record LoadsRuns (old : StoreState) (tx : ℕ) (given : Result Records Status) (loaded : ℕ) (reply : Reply)
-    (held : Option StoreState) : Type 0 where
+pub record LoadsRuns (old : StoreState) (tx : ℕ) (bringing : Bringing) (given : Result Records Status) (loaded : ℕ)
+    (reply : Reply) (held : Option StoreState) : Type 0 where
   pub runs : List Records
   pub are : AreRunsGiven given runs
   pub new : StoreState
   pub stands : held ≡ Some new
-  pub turns : LoadInTurn tx runs old loaded reply new
+  pub turns : LoadInTurn tx bringing runs old loaded reply new
 
 -- without a store, or with a failure, nothing is done
-abbrev pub Loads : Option StoreState → ℕ → Result Records Status → ℕ → Result Reply LoadFailure → Option StoreState →
-    Type 0
-Loads None tx given loaded answer held = (loaded ≡ 0) × (answer ≡ Err (Other is.NoStore)) × (held ≡ None)
-Loads (Some p) tx given loaded (Err failure) held = (loaded ≡ 0) × IsFailure given failure × (held ≡ Some p)
-Loads (Some p) tx given loaded (Ok reply) held = LoadsRuns p tx given loaded reply held
+abbrev pub Loads : Option StoreState → ℕ → Bringing → Result Records Status → ℕ → Result Reply LoadFailure →
+    Option StoreState → Type 0
+Loads None tx bringing given loaded answer held = (loaded ≡ 0) × (answer ≡ Err (Other is.NoStore)) × (held ≡ None)
+Loads (Some p) tx bringing given loaded (Err failure) held =
+    (loaded ≡ 0) × IsFailure given failure × (held ≡ Some p)
+Loads (Some p) tx bringing given loaded (Ok reply) held = LoadsRuns p tx bringing given loaded reply held
 
--- what was given was loaded, and what C has of it is so
-pub record TellsRuns (old : Option StoreState) (tx : ℕ) (given : Result Records Status) (new : Option StoreState)
-    (So : ℕ → Result Reply LoadFailure → Type 0) : Type 0 where
+-- what was given was brought in, and what C has of it is so
+pub record TellsRuns (old : Option StoreState) (tx : ℕ) (bringing : Bringing) (given : Result Records Status)
+    (new : Option StoreState) (So : ℕ → Result Reply LoadFailure → Type 0) : Type 0 where
   pub loaded : ℕ
   pub answer : Result Reply LoadFailure
-  pub loads : Loads old tx given loaded answer new
+  pub loads : Loads old tx bringing given loaded answer new
   pub so : So loaded answer
 
--- what was read of the text was loaded, and what C has of it is so
-pub record TellsText (old : Option StoreState) (tx : ℕ) (text : List ℕ) (line : ℕ) (new : Option StoreState)
-    (So : ℕ → Result Reply LoadFailure → Type 0) : Type 0 where
+-- what was read of the text was brought in, and what C has of it is so
+pub record TellsText (old : Option StoreState) (tx : ℕ) (bringing : Bringing) (text : List ℕ) (line : ℕ)
+    (new : Option StoreState) (So : ℕ → Result Reply LoadFailure → Type 0) : Type 0 where
   pub read : Result Records Status
   pub is_read : IsRead text read line
-  pub tells : TellsRuns old tx read new So
+  pub tells : TellsRuns old tx bringing read new So

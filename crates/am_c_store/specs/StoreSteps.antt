@@ -7,11 +7,12 @@ use Rattle.am_record.specs.declared.step.Reply.{Reply}
 use Rattle.am_record.specs.declared.step.Reply.TheVariants.{Refused}
 use Rattle.am_sound.specs.StoreState.{StoreState, empty_state}
 use Rattle.am_core.specs.StoreSteps.{IsSoundAt, Extends, IsOwed}
+use Rattle.am_c_steps.specs.declared.bringing.Bringing.{Bringing}
 use Rattle.am_c_steps.specs.declared.status.Status.{Status}
 use Rattle.am_c_steps.specs.declared.status.Status.TheVariants.{Fine, NoStore, IsOpen, NoMemory}
 use Rattle.am_c_steps.specs.declared.text.Record.{Record}
 use Rattle.am_c_steps.specs.Statuses.{code}
-use Rattle.am_c_steps.specs.AskedSteps.{IsLoadAsked}
+use Rattle.am_c_steps.specs.AskedSteps.{AreRecordsAsked}
 
 -- the store took the step, and replied: by what the store owes for each step, so that nothing of that is lost here
 pub record Takes (old : StoreState) (step : Step) (reply : Reply) (new : StoreState) : Type 0 where
@@ -40,11 +41,11 @@ pub record Tells (old : Option StoreState) (asked : Result Step Status) (new : O
   pub answers : Answers old asked answer new
   pub so : So answer
 
--- the same of a load: what is asked of the store is made of the records
-pub record TellsLoad (old : Option StoreState) (tx : ℕ) (records : List Record) (new : Option StoreState)
-    (So : Result Reply Status → Type 0) : Type 0 where
+-- the same of records that come in: what is asked of the store is made of them
+pub record TellsRecords (old : Option StoreState) (tx : ℕ) (bringing : Bringing) (records : List Record)
+    (new : Option StoreState) (So : Result Reply Status → Type 0) : Type 0 where
   pub asked : Result Step Status
-  pub load : IsLoadAsked tx records asked
+  pub made : AreRecordsAsked tx bringing records asked
   pub tells : Tells old asked new So
 
 -- no step was taken yet

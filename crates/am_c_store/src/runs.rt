@@ -1,4 +1,4 @@
-//! Records in any order: they are cut into runs, and these are loaded in turn.
+//! Records in any order: they are cut into runs, and these are loaded or put in turn.
 
 ghost use Rattle.std.specs.Prelude.{◌≡◌, ◌<◌, ◌^◌, [], Some, Ok, Err, length};
 ghost use Rattle.am_runs.specs.Cuts.{records_of};
@@ -10,10 +10,11 @@ use crate::handle::Handle;
 use crate::store_steps::take_there;
 use am_btree::BTree;
 use am_c_steps::{
-    KeyText, LoadFailure, Status, failure_of, number_told, status_told, tell_load_key, without_key,
+    Bringing, KeyText, LoadFailure, Status, failure_of, number_told, status_told, tell_load_key,
+    without_key,
 };
 use am_core::Store;
-use am_record::{MAX_RUN_RECORDS, Op, Records, Refusal, Reply, Step};
+use am_record::{MAX_RUN_RECORDS, Records, Refusal, Reply, Step};
 use am_runs::{Cut, RecordSource, cut_source};
 use std::alloc::Global;
 
@@ -22,16 +23,17 @@ pub fn tell_runs<S: RecordSource + Drop>(
     alloc: Global,
     store: &mut Handle,
     tx: u64,
+    bringing: Bringing,
     given: Result<S, Status>,
     key: &mut KeyText,
     loaded: &mut u64,
     told: &mut u64,
 ) -> u32
-    ensures { TellsRuns store.old.held tx (given_by S.records given) store.new.held
+    ensures { TellsRuns store.old.held tx bringing (given_by S.records given) store.new.held
         (λ n answer. (result ≡ status (without_key answer)) × (told.new ≡ number (without_key answer))
         × (key.new ≡ load_key_told answer key.old) × (loaded.new ≡ n)) }
 {
-    let end = load_given(alloc, store, tx, given);
+    let end = load_given(alloc, store, tx, bringing, given);
     *loaded = end.records;
     tell_load_key(&end.answer, key);
     let answer = without_key(end.answer);
@@ -54,15 +56,17 @@ fn load_given<S: RecordSource + Drop>(
     alloc: Global,
     handle: &mut Handle,
     tx: u64,
+    bringing: Bringing,
     given: Result<S, Status>,
 ) -> Loaded
-    ensures { Loads handle.old.held tx (given_by S.records given) result.records result.answer handle.new.held }
+    ensures { Loads handle.old.held tx bringing (given_by S.records given) result.records result.answer
+        handle.new.held }
 {
     let Some(mut store) = handle.take(alloc) else {
         return not_loaded(LoadFailure::Other(Status::NoStore));
     };
     let loaded = match given {
-        Ok(source) => load_source(alloc, &mut store, tx, &source),
+        Ok(source) => load_source(alloc, &mut store, tx, bringing, &source),
         Err(why) => not_loaded(LoadFailure::Other(why)),
     };
     handle.put(store);
@@ -84,17 +88,18 @@ fn load_source<S: RecordSource>(
     alloc: Global,
     store: &mut Box<Store<BTree>>,
     tx: u64,
+    bringing: Bringing,
     source: &S,
 ) -> Loaded
-    ensures { Loads (Some store.old.value) tx (Ok (S.records source.now)) result.records result.answer
+    ensures { Loads (Some store.old.value) tx bringing (Ok (S.records source.now)) result.records result.answer
         (Some store.new.value) }
 {
     if source.len() == 0 {
-        return load_none(alloc, store, tx);
+        return load_none(alloc, store, tx, bringing);
     }
     match cut_source(alloc, source, MAX_RUN_RECORDS) {
         Ok(runs) => {
-            let (records, reply) = load_in_turn(alloc, store, tx, runs);
+            let (records, reply) = load_in_turn(alloc, store, tx, bringing, runs);
             let answer = Ok(reply);
             Loaded { records, answer }
         }
@@ -102,13 +107,13 @@ fn load_source<S: RecordSource>(
     }
 }
 
-fn load_none(alloc: Global, store: &mut Box<Store<BTree>>, tx: u64) -> Loaded
-    ensures { Loads (Some store.old.value) tx (Ok []) result.records result.answer (Some store.new.value) }
+fn load_none(alloc: Global, store: &mut Box<Store<BTree>>, tx: u64, bringing: Bringing) -> Loaded
+    ensures { Loads (Some store.old.value) tx bringing (Ok []) result.records result.answer (Some store.new.value) }
 {
     let none = Records::new(Vec::new(alloc));
     Loaded {
         records: 0,
-        answer: Ok(take_there(store, Step::Do(tx, Op::Load(none)))),
+        answer: Ok(take_there(store, Step::Do(tx, bringing.op(none)))),
     }
 }
 
@@ -117,10 +122,11 @@ fn load_in_turn<S: RecordSource>(
     alloc: Global,
     store: &mut Box<Store<BTree>>,
     tx: u64,
+    bringing: Bringing,
     runs: Cut<'_, S>,
 ) -> (u64, Reply)
     requires { length (records_of runs) < 2 ^ 64 }
-    ensures { LoadInTurn tx runs.entry store.old.value result.0 result.1 store.new.value }
+    ensures { LoadInTurn tx bringing runs.entry store.old.value result.0 result.1 store.new.value }
 {
     let mut runs = runs;
     let mut records = 0;
@@ -131,7 +137,7 @@ fn load_in_turn<S: RecordSource>(
             Err(_) => return (records, Reply::Refused(Refusal::NoMemory)),
         };
         let len = run.as_slice().len() as u64;
-        match take_there(store, Step::Do(tx, Op::Load(run))) {
+        match take_there(store, Step::Do(tx, bringing.op(run))) {
             Reply::Done => records += len,
             refused => return (records, refused),
         }

@@ -1,6 +1,6 @@
 //! The file of a server's trace, from its opening until it has its name.
 
-ghost use Rattle.std.specs.Prelude.{◌≡◌, ◌≢◌, IfOk, is_some, true, false, None, Ok, Err};
+ghost use Rattle.std.specs.Prelude.{◌≡◌, IfOk, is_some, true, false, None, Ok, Err};
 
 use crate::ending::remove_socket;
 use am_serve_command::Listening;
@@ -89,7 +89,8 @@ fn open_file<R: AllocGlobal + Files<File = File>>(
     Ok(OpenedFile { trace, file, name })
 }
 
-/// The writer of the trace, where a file is named, which has written its first line, that of version 2 or 3.
+/// The writer of the trace, where a file is named, which has written its first line: that of version 3, since nobody
+/// knows yet whether an older one can write what comes.
 ///
 /// # Errors
 /// CannotWriteTrace, where the server stays and the line can't be written; nothing is left of the socket then.
@@ -98,15 +99,13 @@ pub fn begin_trace<'a, R: AllocGlobal + Files + Eprint + Wait>(
     rt: &'a R,
     listening: &Listening<'_>,
     outbox: &'a Outbox,
-    version: Version,
 ) -> Result<Option<Writer<'a, R>>, ListenFault>
-    requires { version ≢ Version.One }
     ensures { IfOk result (λ writer. is_some writer ≡ is_some listening.now.trace) }
 {
     if listening.trace.is_none() {
         return Ok(None);
     }
-    let writer = TraceWriter::begin(rt.alloc(), Sending::new(rt, outbox), version);
+    let writer = TraceWriter::begin(rt.alloc(), Sending::new(rt, outbox), Version::Three);
     if listening.stays && writer.is_cut() {
         remove_socket(rt, listening);
         return Err(ListenFault::CannotWriteTrace(None));
@@ -121,14 +120,17 @@ pub fn forget_trace<R: Files>(rt: &R, file: Option<&TraceFile>) {
     }
 }
 
-/// Gives what was written the name of the file, where one is named. Of a trace that is cut nothing is left.
+/// Gives what was written the name of the file, where one is named. Before that its first line gets the version, unless
+/// the third alone writes what was taken. Of a trace that is cut nothing is left.
 ///
 /// # Errors
 /// CannotWriteTrace, where the trace is cut, or the system refuses the name.
-pub fn store_trace<R: Files>(
+pub fn store_trace<R: Files<File = File>>(
     rt: &R,
     file: Option<&TraceFile>,
     is_cut: bool,
+    version: Version,
+    needs_three: bool,
 ) -> Result<(), ListenFault>
     ensures cut { is_cut ≡ true → result ≡ Err (ListenFault.CannotWriteTrace None) }
     ensures unnamed { file.entry ≡ None → is_cut ≡ false → result ≡ Ok tt }
@@ -138,7 +140,12 @@ pub fn store_trace<R: Files>(
         return Err(ListenFault::CannotWriteTrace(None));
     }
     match file {
-        Some(file) => file.keep(rt),
+        Some(file) => {
+            if !needs_three && version != Version::Three {
+                file.mend_first_line(rt, version.header())?;
+            }
+            file.keep(rt)
+        }
         None => Ok(()),
     }
 }

@@ -28,13 +28,13 @@ use Rattle.am_tx.specs.Txs.{Txs, IsConsistent, with_log, txs_after_op}
 use Rattle.am_record.specs.ByNumber.{with_changed}
 use Rattle.am_record.proofs.ByNumber.{has_number-with_changed, of_number-kept}
 use Rattle.am_tx.specs.declared.transaction.Transaction.{Transaction}
-use Rattle.am_record.specs.Refusals.{refusal_before_lock, is_load, is_one_too_many, lock_refusal, or_else}
+use Rattle.am_record.specs.Refusals.{refusal_before_lock, may_make_run, is_one_too_many, lock_refusal, or_else}
 use Rattle.am_serial.specs.Trace.{runs_made}
 use Rattle.am_effect.specs.Laws.{taken_back}
 use Rattle.am_effect.specs.Store.{with_wish}
 use Rattle.am_effect.specs.Operations.{changed, noted, notes_left, marks_left, wished}
 use Rattle.am_sound.specs.Represents.{stored_answer}
-use Rattle.am_sound.specs.StoreState.{StoreState, is_in, in_table, MayAnswer, refusal_in, takes_memory, state_after_op}
+use Rattle.am_sound.specs.StoreState.{is_in, in_table, MayAnswer, refusal_in, takes_memory, state_after_op}
 use Rattle.am_sound.specs.StoreState.{with_op, taken_back_to_mark, blocker_in}
 use Rattle.am_core.specs.StoreContent.{state_kept, actives}
 use Rattle.am_core.specs.Memory.{adds_ninth_lock, may_want_room}
@@ -211,7 +211,7 @@ module _ (most_runs : ℕ) (parts : Partitions) (t : Txs) (wishes : List Interva
         wishes = with_wish wishes (wished op reply);
         begun = t.begun;
         commits = commits;
-        runs = parts.runs + runs_made op reply;
+        runs = parts.runs + runs_made (content parts.entries) op reply;
         active = with_changed (λ x. x.number) (with_op op reply (noted parts.runs op reply parts.entries)) tx
             (actives t);
       }
@@ -273,13 +273,13 @@ module _ (most_runs : ℕ) (parts : Partitions) (t : Txs) (wishes : List Interva
 -- where one may be, there is a number for it
 pub has_number : (active : Bool) (ops most_runs runs open_runs : ℕ) (op : Op) → most_runs ≤ 4294967294 →
     None ≡ refusal_before_lock active ops (nat_le most_runs runs || nat_le 65535 open_runs) op →
-    (is_load op && nat_le 4294967294 runs) ≡ false
+    (may_make_run op && nat_le 4294967294 runs) ≡ false
 has_number active ops most_runs runs open_runs op few none = ⊎_elim
     (λ yes. let made : nat_le most_runs runs ≡ true = le-leb most_runs runs
     (omega (arith, few, leb-true 4294967294 runs yes)) in
-    ap (λ b. is_load op && b) (yes ∙ sym (or_left (nat_le most_runs runs) (nat_le 65535 open_runs) made)) ∙
-    no_load _ _ _ _ (is_load op && (nat_le most_runs runs || nat_le 65535 open_runs)) none)
-    (λ no. ap (λ b. is_load op && b) no ∙ and_no (is_load op))
+    ap (λ b. may_make_run op && b) (yes ∙ sym (or_left (nat_le most_runs runs) (nat_le 65535 open_runs) made)) ∙
+    no_load _ _ _ _ (may_make_run op && (nat_le most_runs runs || nat_le 65535 open_runs)) none)
+    (λ no. ap (λ b. may_make_run op && b) no ∙ and_no (may_make_run op))
     (cases_Bool (nat_le 4294967294 runs))
   where
     and_no : (b : Bool) → (b && false) ≡ false

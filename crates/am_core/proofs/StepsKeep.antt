@@ -2,17 +2,17 @@
 use Rattle.std.proofs.Common.{◌≡◌, ◌≤◌, ◌+◌, ◌^◌, ◌++◌, ◌⊎◌, ℕ, List, [], ◌∷◌, length, take, take_while, Bool}
 use Rattle.std.proofs.Common.{true, false, cond, ◌==◌, Option, Some, None, refl, sym, subst, ⊎_elim}
 use Rattle.std.proofs.Common.{arith, length-append}
-use Rattle.std.specs.Prelude.{MatchOption, MatchBool, is_none, nat_le, ◌&&◌}
+use Rattle.std.specs.Prelude.{MatchOption, MatchBool, is_none, nat_le, reverse, ◌&&◌}
 use Rattle.std.proofs.lemmas.Bool.{false≢true, and_parts, leb-true}
 use Rattle.std.specs.List.{prefix_len}
 use Rattle.std.proofs.lemmas.List.{length-take, length-map}
 use Rattle.am_record.specs.Interval.{Interval, within}
-use Rattle.am_record.specs.Plain.{PlainMap, scan_rows, rows_where}
+use Rattle.am_record.specs.Plain.{PlainMap, Records, rows_where}
 use Rattle.am_record.specs.declared.entry.Entry.{Entry}
 use Rattle.am_record.specs.declared.step.Refusal.{Refusal}
 use Rattle.am_record.specs.declared.step.Refusal.TheVariants.{NoMemory, BadLimit}
 use Rattle.am_record.specs.declared.step.Op.{Op}
-use Rattle.am_record.specs.declared.step.Op.TheVariants.{Scan}
+use Rattle.am_record.specs.declared.step.Op.TheVariants.{Scan, ScanBack, DeleteRange}
 use Rattle.am_record.specs.declared.step.Step.{Step}
 use Rattle.am_record.specs.declared.step.Step.TheVariants.{Begin, Do, Commit, Abort, Merge, Clean}
 use Rattle.am_record.specs.declared.step.Reply.{Reply}
@@ -167,26 +167,34 @@ some_active (x ∷ xs) tx a = omega arith
 
 -- ---- how much a reply has
 
-few_rows : (p : StoreState) (t : ℕ) (range : Interval) (max : ℕ) (reply : Reply) → MayAnswer p (Do t (Scan range max))
-    reply → IsWithin (Do t (Scan range max)) reply
-few_rows p t range max reply says = by_due (refusal_in p t (Scan range max)) says
-  where
-    asked : (m : PlainMap) → length (scan_rows range max m) ≤ max
-    asked m = omega (arith, length-take max (rows_where (within range) m))
+take_few : (max : ℕ) (rows : Records) → length (take max rows) ≤ max
+take_few max rows = omega (arith, length-take max rows)
 
+-- an operation whose answers are within their bounds, and whose refusals are
+within_answer : (p : StoreState) (t : ℕ) (op : Op) (reply : Reply) →
+    ((marks : List ℕ) (m : PlainMap) → IsWithin (Do t op) (stored_answer op marks m)) →
+    ((why : Refusal) → IsWithin (Do t op) (Refused why)) → MayAnswer p (Do t op) reply → IsWithin (Do t op) reply
+within_answer p t op reply answered refused says = by_due (refusal_in p t op) says
+  where
     by_due : (o : Option Refusal) → MatchOption o
-        ((reply ≡ stored_answer (Scan range max) (in_table p.active t).marks (content p.entries)) ⊎
-        ((reply ≡ Refused NoMemory) × (takes_memory (Scan range max) ≡ true))) (λ why. reply ≡ Refused why) →
-        IsWithin (Do t (Scan range max)) reply
+        ((reply ≡ stored_answer op (in_table p.active t).marks (content p.entries)) ⊎
+        ((reply ≡ Refused NoMemory) × (takes_memory op ≡ true))) (λ why. reply ≡ Refused why) →
+        IsWithin (Do t op) reply
     by_due None h = ⊎_elim
-        (λ e. subst (λ (r : Reply). IsWithin (Do t (Scan range max)) r) (sym e) (asked (content p.entries)))
-        (λ w. subst (λ (r : Reply). IsWithin (Do t (Scan range max)) r) (sym w.0) tt)
+        (λ e. subst (λ (r : Reply). IsWithin (Do t op) r) (sym e)
+        (answered (in_table p.active t).marks (content p.entries)))
+        (λ w. subst (λ (r : Reply). IsWithin (Do t op) r) (sym w.0) (refused NoMemory))
         h
-    by_due (Some why) e = subst (λ (r : Reply). IsWithin (Do t (Scan range max)) r) (sym e) tt
+    by_due (Some why) e = subst (λ (r : Reply). IsWithin (Do t op) r) (sym e) (refused why)
 
 pub within_do : (p : StoreState) (t : ℕ) (op : Op) (reply : Reply) → MayAnswer p (Do t op) reply →
     IsWithin (Do t op) reply
-within_do p t (Scan range max) reply says = few_rows p t range max reply says
+within_do p t (Scan range max) reply says = within_answer p t (Scan range max) reply
+    (λ marks m. take_few max (rows_where (within range) m)) (λ why. tt) says
+within_do p t (ScanBack range max) reply says = within_answer p t (ScanBack range max) reply
+    (λ marks m. take_few max (reverse (rows_where (within range) m))) (λ why. tt) says
+within_do p t (DeleteRange range max) reply says = within_answer p t (DeleteRange range max) reply
+    (λ marks m. take_few max (rows_where (within range) m)) (λ why. tt) says
 within_do p t op reply says = tt
 
 at_most : (test : Entry → Bool) (xs : List Entry) → length (take_while test xs) ≤ length xs

@@ -6,7 +6,7 @@ use Rattle.am_record.specs.declared.lock.Lock.{Lock}
 use Rattle.am_record.specs.declared.step.Refusal.{Refusal}
 use Rattle.am_record.specs.declared.step.Refusal.TheVariants.{NoMemory}
 use Rattle.am_record.specs.declared.step.Op.{Op}
-use Rattle.am_record.specs.declared.step.Op.TheVariants.{Get, Scan}
+use Rattle.am_record.specs.declared.step.Op.TheVariants.{Get, Scan, ScanBack}
 use Rattle.am_locks.specs.Table.{is_owner, locks_owned}
 use Rattle.am_tx.specs.Txs.{Txs}
 use Rattle.am_record.specs.Refusals.{is_one_too_many, lock_refusal}
@@ -43,4 +43,5 @@ pub record IsLockGranted (txs : Txs) (tx : ℕ) (asked : Option Lock) (txs' : Tx
 abbrev pub wish_of : Op → Option Interval
 wish_of (Get k) = Some (point k)
 wish_of (Scan range max) = Some range
+wish_of (ScanBack range max) = Some range
 wish_of op = None

@@ -1,5 +1,5 @@
 -- Which steps may be refused for want of memory.
-use Rattle.std.specs.Prelude.{ℕ, nat_le, length, List, Bool, true, false, not, ◌&&◌, ◌||◌, Option, Some, None}
+use Rattle.std.specs.Prelude.{nat_le, length, List, Bool, true, false, not, ◌&&◌, ◌||◌, Option, Some, None}
 use Rattle.am_record.specs.Locks.{is_covered}
 use Rattle.am_record.specs.Asks.{lock_of}
 use Rattle.am_record.specs.declared.lock.Lock.{Lock}

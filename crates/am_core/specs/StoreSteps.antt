@@ -2,11 +2,11 @@
 use Rattle.std.specs.Prelude.{◌≡◌, ◌≤◌, length, List, [], ◌∷◌, ◌++◌, true}
 use Rattle.am_record.specs.Limits.{max_limit}
 use Rattle.am_record.specs.declared.step.Refusal.TheVariants.{NoMemory}
-use Rattle.am_record.specs.declared.step.Op.TheVariants.{Scan}
+use Rattle.am_record.specs.declared.step.Op.TheVariants.{Scan, ScanBack, DeleteRange}
 use Rattle.am_record.specs.declared.step.Step.{Step}
 use Rattle.am_record.specs.declared.step.Step.TheVariants.{Do, Merge, Clean}
 use Rattle.am_record.specs.declared.step.Reply.{Reply}
-use Rattle.am_record.specs.declared.step.Reply.TheVariants.{Rows, Moved, Refused}
+use Rattle.am_record.specs.declared.step.Reply.TheVariants.{Rows, Deleted, Moved, Refused}
 use Rattle.am_serial.specs.Trace.{Trace}
 use Rattle.am_sound.specs.Right.{IsSoundStore}
 use Rattle.am_index.specs.Content.{content}
@@ -24,9 +24,11 @@ pub record Extends (old : StoreState) (more : Trace) (new : StoreState) : Type 0
   pub most : new.most_runs ≡ old.most_runs
   pub on : (trace : Trace) → IsStateOf trace old → IsSoundAt (trace ++ more) new
 
--- no more rows than asked for, and no more moves than may be made at once
+-- no more rows and no more deleted records than asked for, and no more moves than may be made at once
 abbrev pub IsWithin : Step → Reply → Type 0
 IsWithin (Do t (Scan range max)) (Rows rows) = length rows ≤ max
+IsWithin (Do t (ScanBack range max)) (Rows rows) = length rows ≤ max
+IsWithin (Do t (DeleteRange range max)) (Deleted n) = n ≤ max
 IsWithin (Merge limit) (Moved n run) = n ≤ max_limit
 IsWithin _ _ = Unit {0}
 

@@ -70,7 +70,7 @@ pub(crate) fn wish_of(op: &Op) -> Option<Range>
 {
     match op {
         Op::Get(key) => Some(Range::point(*key)),
-        Op::Scan(range, _) => Some(*range),
+        Op::Scan(range, _) | Op::ScanBack(range, _) => Some(*range),
         _ => None,
     }
 }

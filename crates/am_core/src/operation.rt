@@ -10,7 +10,7 @@ ghost use Rattle.am_record.specs.Marks.{since_mark};
 ghost use Rattle.am_undo.specs.Notes.{CanTakeBack, NotesFit};
 ghost use Rattle.am_index.specs.Runs.{NothingAbove};
 ghost use Rattle.am_tx.specs.Active.{is_active_in, log_in};
-ghost use Rattle.am_record.specs.Refusals.{is_load};
+ghost use Rattle.am_record.specs.Refusals.{may_make_run};
 ghost use Rattle.am_sound.specs.StoreState.{MayAnswer, state_after, IsFit};
 ghost use Rattle.am_effect.specs.Store.{with_wish};
 ghost use Rattle.am_operations.specs.OperationSteps.{MayWantRoom};
@@ -81,7 +81,7 @@ fn work<I: PartIndex + Drop>(
 ) -> Result<Reply, NoMemory>
     requires active { is_active_in txs.old.active tx ≡ true }
     requires orderly { is_orderly op ≡ true }
-    requires room { (is_load op && nat_le 4294967294 parts.old.runs) ≡ false }
+    requires room { (may_make_run op && nat_le 4294967294 parts.old.runs) ≡ false }
     requires above { NothingAbove parts.old.runs parts.old.entries }
     requires back { CanTakeBack (since_mark (log_in txs.old.active tx).marks (log_in txs.old.active tx).notes)
         (find parts.old.entries) }

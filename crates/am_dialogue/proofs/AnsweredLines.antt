@@ -149,10 +149,12 @@ AreVisible records = AllByRecursion IsVisibleRow records
 
 with_visible : (staged : Records) (o : Op) → AreVisible staged → WritesVisible o → WritesVisible (with_staged staged o)
 with_visible staged (op.Load records) v w = all_append IsVisibleRow staged records v w
+with_visible staged (op.Put records) v w = all_append IsVisibleRow staged records v w
 with_visible staged o v w = w
 
 left_visible : (staged : Records) (o : Op) → AreVisible staged → AreVisible (staged_left staged o)
 left_visible staged (op.Load records) v = tt
+left_visible staged (op.Put records) v = tt
 left_visible staged o v = v
 
 either_visible : (b : Bool) (xs ys : Records) → AreVisible xs → AreVisible ys → AreVisible (cond b xs ys)

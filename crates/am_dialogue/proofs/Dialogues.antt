@@ -211,7 +211,7 @@ module _ (begun commits runs : ℕ) (m : PlainMap) (staged : Records) where
 
 -- ---- one transaction active
 
--- the load whose memory was refused lets go what waited
+-- the load or the put whose memory was refused lets go what waited
 refused_keeps : (o : Op) (s : say.DialogueState) → record s { staged = staged_left s.staged o } ≡ state_refused s
     (said.Asked (request.Do o)) (Replied (reply.Refused why.NoMemory))
 refused_keeps (op.Get k) s = refl
@@ -253,7 +253,10 @@ module _ (begun commits runs : ℕ) (m : PlainMap) (body : List Answered) (stage
         let due_reply : reply_due (state_at busy) own_ops whole ≡ parsed_of = ap (λ o. refused_or o due_answer) none ∙
         sym is in
         said_so busy left_over (step.Do begun whole) asks parsed_of rest
-        (record busy_on { runs = runs + runs_made whole parsed_of; own = Some (body ++ (whole, parsed_of) ∷ []) })
+        (record busy_on {
+          runs = runs + runs_made (left own_ops m) whole parsed_of;
+          own = Some (body ++ (whole, parsed_of) ∷ []);
+        })
         (subst (λ (x : machine.State). Runs 65535 x rest) (ap (next (machine_at busy)) (counts.effect begun whole) ∙
         next_did begun commits runs m body staged whole parsed_of) run)
         (λ i. (record { active = counts.active (Some begun) i; commits = commits }, counts.staged left_over i))
@@ -262,7 +265,7 @@ module _ (begun commits runs : ℕ) (m : PlainMap) (body : List Answered) (stage
         ((λ i. record {
           begun = begun;
           commits = commits;
-          runs = runs + runs_made whole parsed_of;
+          runs = runs + runs_made (left own_ops m) whole parsed_of;
           committed = m;
           own = Some (ops_did begun commits runs m body staged whole parsed_of i);
           staged = left_over;

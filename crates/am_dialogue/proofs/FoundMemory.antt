@@ -120,6 +120,7 @@ IsEmpty s = s.staged ≡ []
 
 left_empty : (staged : Records) (o : Op) → staged ≡ [] → staged_left staged o ≡ []
 left_empty staged (op.Load rows) e = refl
+left_empty staged (op.Put rows) e = refl
 left_empty staged o e = e
 
 did_empty : (s : DialogueState) (ops : List Op) (o : Op) (r : Reply) → IsEmpty s → IsEmpty (state_did s ops o r)

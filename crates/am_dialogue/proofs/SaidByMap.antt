@@ -21,7 +21,8 @@ use Rattle.am_record.specs.declared.step.Refusal.{Refusal}
 use Rattle.am_record.specs.declared.step.Refusal.TheVariants as why
 use Rattle.am_serial.specs.Trace.{Answered, ops_of, Answers, Commits, Aborts, effect_of_do, runs_made}
 use Rattle.am_serial.specs.Machine as machine
-use Rattle.am_record.specs.Refusals.{refusal_before_lock, or_else, lock_refusal, is_one_too_many, is_bounded, is_load}
+use Rattle.am_record.specs.Refusals.{refusal_before_lock, or_else, lock_refusal, is_one_too_many, is_bounded}
+use Rattle.am_record.specs.Refusals.{may_make_run}
 use Rattle.am_serial.specs.Machine.{Transaction, is_full, says_full, due, due_early, due_lock, next, view}
 use Rattle.am_dialogue.specs.Session.{staged_after}
 use Rattle.am_dialogue.specs.Alone.{Alone}
@@ -97,6 +98,7 @@ is_answer reply.Absent = true
 is_answer (reply.Rows rows) = true
 is_answer (reply.Exists k) = true
 is_answer reply.Missing = true
+is_answer (reply.Deleted n) = true
 is_answer reply.NoMark = true
 is_answer _ = false
 
@@ -130,7 +132,10 @@ pub record Counts (r : Reply) : Type 0 where
   pub found : wants_memory (Replied r) ≡ false
   pub effect : (t : ℕ) (op : Op) → effect_of_do t op r ≡ Answers t op r
   pub did : (s : say.DialogueState) (ops : List Op) (op : Op) →
-      state_did s ops op r ≡ record s { runs = s.runs + runs_made op r; own = Some (ops ++ op ∷ []) }
+      state_did s ops op r ≡ record s {
+        runs = s.runs + runs_made (left ops s.committed) op r;
+        own = Some (ops ++ op ∷ []);
+      }
   pub active : (a : Option ℕ) → active_after a r ≡ a
   pub staged : (rs : Records) → staged_after rs r ≡ rs
 
@@ -171,6 +176,13 @@ answer_counts (reply.Exists k) h = record {
   staged = λ rs. refl;
 }
 answer_counts reply.Missing h = record {
+  found = refl;
+  effect = λ t op. refl;
+  did = λ s ops op. refl;
+  active = λ a. refl;
+  staged = λ rs. refl;
+}
+answer_counts (reply.Deleted n) h = record {
   found = refl;
   effect = λ t op. refl;
   did = λ s ops op. refl;
@@ -229,16 +241,16 @@ module _ (begun commits runs : ℕ) (m : PlainMap) (body : List Answered) (stage
       wants_memory (Replied (reply.Refused w)) ≡ false
   due_found op w h =
       early_found (nat_le 4096 (length ops)) (not (is_orderly op)) (not (is_bounded op))
-      (is_load op && nat_le 65535 runs)
+      (may_make_run op && nat_le 65535 runs)
       (lock_refusal None (is_one_too_many (locks_of ops) (lock_of op))) w
       (late_found (is_one_too_many (locks_of ops) (lock_of op))) h
 
   -- ---- steps
 
   pub next_did : (op : Op) (r : Reply) → next (machine_at here) (Answers begun op r) ≡ machine_at
-      (record here { runs = runs + runs_made op r; own = Some (body ++ (op, r) ∷ []) })
+      (record here { runs = runs + runs_made (left ops m) op r; own = Some (body ++ (op, r) ∷ []) })
   next_did op r = λ i. record (machine_at here) {
-    runs = runs + runs_made op r;
+    runs = runs + runs_made (one_view i).map op r;
     active = cond (nat_eq_equiv.refl begun i) (begun, body ++ (op, r) ∷ []) (begun, body) ∷ [];
   }
 

@@ -1,7 +1,9 @@
 -- Maps that have visible keys and values alone: what operations answer on them, and what they leave.
 use Rattle.std.proofs.Common.{◌≡◌, ℕ, zero, suc, List, [], ◌∷◌, ◌++◌, Bool, true, false, cond, not, take, filter}
+use Rattle.std.proofs.Common.{reverse}
 use Rattle.std.proofs.Common.{Option, Some, None, refl, sym, ap, ◌∙◌, subst}
 use Rattle.std.specs.List.{AllByRecursion}
+use Rattle.std.proofs.lemmas.List.{reverse-append}
 use Rattle.std.specs.Ordering.{eq_by_cmp}
 use Rattle.std.specs.declared.cmp.Ordering.{Ordering}
 use Rattle.std.specs.declared.cmp.Ordering.TheVariants.{Less, Equal, Greater}
@@ -11,7 +13,8 @@ use Rattle.std.specs.FinMap.Entries.{find, put, by_order}
 use Rattle.am_record.specs.OrderedKey.{OrderedKey, key_cmp, key_cmp-total, key_cmp-exact}
 use Rattle.am_record.specs.Records.{Records}
 use Rattle.am_record.specs.Plain.{PlainMap, Draft, rows_where, is_key_of, first_key, least_taken, found, exists_or_done}
-use Rattle.am_record.specs.Plain.{insert_all, load_where, answer, draft_after, went_back, draft_back, left_on}
+use Rattle.am_record.specs.Plain.{insert_all, remove_all, scan_rows, load_where, answer, draft_after, went_back}
+use Rattle.am_record.specs.Plain.{draft_back, left_on}
 use Rattle.am_record.specs.Interval.{within}
 use Rattle.am_record.specs.declared.step.Op.{Op}
 use Rattle.am_record.specs.declared.step.Op.TheVariants as op
@@ -41,6 +44,12 @@ module _ {X : Type 0} (P : X → Type 0) where
   pub all_append : (xs ys : List X) → AllByRecursion P xs → AllByRecursion P ys → AllByRecursion P (xs ++ ys)
   all_append [] ys h k = k
   all_append (x ∷ xs) ys h k = (h.0, all_append xs ys h.1 k)
+
+module _ {X : Type 0} (P : X → Type 0) where
+  all_reverse : (xs : List X) → AllByRecursion P xs → AllByRecursion P (reverse xs)
+  all_reverse [] h = h
+  all_reverse (x ∷ xs) h = subst (AllByRecursion P) (sym (reverse-append (x ∷ []) xs))
+      (all_append P (reverse xs) (x ∷ []) (all_reverse xs h.1) (h.0, tt))
 
 -- ---- maps
 
@@ -94,6 +103,10 @@ all_inserted : (rows : Records) (m : PlainMap) → AllByRecursion IsVisibleRow r
 all_inserted [] m w h = h
 all_inserted (row ∷ rows) m w h = all_inserted rows (insert m row.0 row.1) w.1 (insert_visible m row.0 row.1 w.0 h)
 
+all_removed : (rows : Records) (m : PlainMap) → IsVisibleMap m → IsVisibleMap (remove_all rows m)
+all_removed [] m h = h
+all_removed (row ∷ rows) m h = all_removed rows (remove m row.0) (remove_visible m row.0 h)
+
 -- ---- answers
 
 found_here : (b : Bool) (v : List ℕ) (o : Option (List ℕ)) → TellsVisible (reply.Found v) → TellsVisible (found o) →
@@ -129,11 +142,17 @@ pub answer_visible : (o : Op) (d : Draft) → WritesVisible o → IsVisibleDraft
 answer_visible (op.Get k) d w h = found_visible d.map k h.0
 answer_visible (op.Scan range max) d w h = all_take IsVisibleRow max (rows_where (within range) d.map)
     (rows_visible (within range) d.map h.0)
+answer_visible (op.ScanBack range max) d w h =
+    let rows = rows_where (within range) d.map in
+    all_take IsVisibleRow max (reverse rows) (all_reverse IsVisibleRow rows (rows_visible (within range) d.map h.0))
 answer_visible (op.Insert k v) d w h = either_tells (contains_key d.map k) (reply.Exists k) reply.Done w.0 tt
 answer_visible (op.Replace k v) d w h = either_tells (contains_key d.map k) reply.Done reply.Missing tt tt
+answer_visible (op.Set k v) d w h = tt
+answer_visible (op.DeleteRange range max) d w h = tt
 answer_visible (op.Delete k) d w h = either_tells (contains_key d.map k) reply.Done reply.Missing tt tt
 answer_visible (op.Load rows) d w h = first_tells (rows_where (is_key_of rows) d.map)
     (rows_visible (is_key_of rows) d.map h.0)
+answer_visible (op.Put rows) d w h = tt
 answer_visible (op.Lock lock) d w h = tt
 answer_visible op.Mark d w h = tt
 answer_visible op.Back d w h = back_tells d.saved
@@ -157,6 +176,7 @@ gone_back (m ∷ ms) d s h = (s.0, s.1)
 after_visible : (o : Op) (d : Draft) → WritesVisible o → IsVisibleDraft d → IsVisibleDraft (draft_after o d)
 after_visible (op.Get k) d w h = h
 after_visible (op.Scan range max) d w h = h
+after_visible (op.ScanBack range max) d w h = h
 after_visible (op.Insert k v) d w h = (
   either_map (contains_key d.map k) d.map (insert d.map k v) h.0
       (insert_visible d.map k v w h.0),
@@ -167,8 +187,11 @@ after_visible (op.Replace k v) d w h = (
       (insert_visible d.map k v w h.0) h.0,
   h.1,
 )
+after_visible (op.Set k v) d w h = (insert_visible d.map k v w h.0, h.1)
+after_visible (op.DeleteRange range max) d w h = (all_removed (scan_rows range max d.map) d.map h.0, h.1)
 after_visible (op.Delete k) d w h = (remove_visible d.map k h.0, h.1)
 after_visible (op.Load rows) d w h = (loaded (least_taken rows d.map) rows d.map w h.0, h.1)
+after_visible (op.Put rows) d w h = (all_inserted rows d.map w h.0, h.1)
 after_visible (op.Lock lock) d w h = h
 after_visible op.Mark d w h = (h.0, (h.0, h.1))
 after_visible op.Back d w h = gone_back d.saved d h.1 h

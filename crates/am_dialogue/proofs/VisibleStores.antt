@@ -127,7 +127,9 @@ keys_of (row ∷ rows) h = (h.0.0, keys_of rows h.1)
 
 writes_keys : (what : Step) → IsVisibleStep what → StepWritesKeys IsVisibleKey what
 writes_keys (step.Do t (op.Insert k v)) w = w.0
+writes_keys (step.Do t (op.Set k v)) w = w.0
 writes_keys (step.Do t (op.Load rows)) w = keys_of rows w
+writes_keys (step.Do t (op.Put rows)) w = keys_of rows w
 writes_keys _ w = tt
 
 pub after_visible : (s : Store) (what : Step) (told : Reply) → IsVisibleStep what → IsVisibleStore s →

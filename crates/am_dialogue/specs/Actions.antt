@@ -3,9 +3,10 @@ use Rattle.std.specs.Prelude.{◌≡◌, ◌⊎◌, ℕ, ◌+◌, nat_le, ◌&&�
 use Rattle.std.specs.Prelude.{Some, None, Result, Ok, Err}
 use Rattle.am_record.specs.Limits.{max_run_records}
 use Rattle.am_record.specs.Sessions.{IsAllowed}
+use Rattle.am_record.specs.Copies.{has_pairs}
 use Rattle.am_record.specs.Records.{Records}
 use Rattle.am_record.specs.declared.step.Op.{Op}
-use Rattle.am_record.specs.declared.step.Op.TheVariants.{Load}
+use Rattle.am_record.specs.declared.step.Op.TheVariants.{Load, Put}
 use Rattle.am_record.specs.declared.step.Step.{Step}
 use Rattle.am_record.specs.declared.step.Step.TheVariants as step
 use Rattle.am_record.specs.declared.step.Reply.{Reply}
@@ -33,13 +34,15 @@ abbrev pub some_wait : Records → Bool
 some_wait [] = false
 some_wait (r ∷ rs) = true
 
--- an operation with what waits, which a load takes with it
+-- an operation with what waits, which a load or a put takes with it
 abbrev pub with_staged : Records → Op → Op
 with_staged staged (Load records) = Load (staged ++ records)
+with_staged staged (Put records) = Put (staged ++ records)
 with_staged staged op = op
 
 abbrev pub staged_left : Records → Op → Records
 staged_left staged (Load records) = []
+staged_left staged (Put records) = []
 staged_left staged op = staged
 
 -- what waits where a line asked this
@@ -99,7 +102,7 @@ session_behind_line s _ = s
 -- whether room is wanted for records beside those that wait
 abbrev pub wants_room : Option ℕ → Records → Request → Bool
 wants_room (Some tx) staged (Stage records) = may_wait staged records
-wants_room (Some tx) staged (Do (Load records)) = some_wait staged
+wants_room (Some tx) staged (Do op) = has_pairs op && some_wait staged
 wants_room active staged request = false
 
 abbrev pub no_room : Action
@@ -123,10 +126,16 @@ MayStage s records answer s' =
     { active = s.active; staged = cond (may_wait s.staged records) (s.staged ++ records) s.staged }))
     ⊎ ((may_wait s.staged records ≡ true) × (answer ≡ response.Faulty fault.NoMemory) × (s' ≡ s))
 
--- the records of a LOAD
-abbrev pub MayLoad : {E : Type 0} → SessionState → Records → Result Records E → SessionState → Type 0
-MayLoad s records (Ok all) s' = (all ≡ s.staged ++ records) × (s' ≡ record { active = s.active; staged = [] })
-MayLoad s records (Err e) s' = (some_wait s.staged ≡ true) × (s' ≡ s)
+-- an operation with what waits, and what waits then
+abbrev pub MayTakeAlong : {E : Type 0} → SessionState → Op → Result Op E → SessionState → Type 0
+MayTakeAlong s op (Ok whole) s' = (whole ≡ with_staged s.staged op) ×
+    (s' ≡ record { active = s.active; staged = staged_left s.staged op })
+MayTakeAlong s op (Err e) s' = ((has_pairs op && some_wait s.staged) ≡ true) × (s' ≡ s)
+
+-- the records of a LOAD or a PUT
+abbrev pub MayGather : {E : Type 0} → SessionState → Records → Result Records E → SessionState → Type 0
+MayGather s records (Ok all) s' = (all ≡ s.staged ++ records) × (s' ≡ record { active = s.active; staged = [] })
+MayGather s records (Err e) s' = (some_wait s.staged ≡ true) × (s' ≡ s)
 
 -- ---- steps
 

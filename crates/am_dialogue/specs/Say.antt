@@ -7,7 +7,7 @@ use Rattle.am_record.specs.Records.{Records}
 use Rattle.am_record.specs.Plain.{PlainMap, fresh, answer, left, left_on}
 use Rattle.am_record.specs.Asks.{lock_of, locks_of}
 use Rattle.am_record.specs.declared.step.Op.{Op}
-use Rattle.am_record.specs.declared.step.Op.TheVariants.{Load}
+use Rattle.am_record.specs.declared.step.Op.TheVariants.{Load, Put}
 use Rattle.am_record.specs.declared.step.Reply.{Reply}
 use Rattle.am_record.specs.declared.step.Reply.TheVariants.{Begun, Committed, Aborted, Refused}
 use Rattle.am_record.specs.declared.step.Refusal.{Refusal}
@@ -29,7 +29,7 @@ use Rattle.am_dialogue.specs.declared.response.Response.TheVariants.{StillStaged
 use Rattle.am_dialogue.specs.declared.response.HoldAnswer.TheVariants.{Granted, OutOfBounds}
 
 -- how many transactions were begun and committed and how many runs were made, the map that the committed ones left, the
--- operations of the active transaction, and the records that wait for its next load
+-- operations of the active transaction, and the records that wait for its next load or put
 pub record DialogueState : Type 0 where
   pub begun : ℕ
   pub commits : ℕ
@@ -88,9 +88,12 @@ answer_to s own _ = Some NoTransaction
 -- an operation that is answered is the transaction's own from then on
 abbrev pub state_did : DialogueState → List Op → Op → Reply → DialogueState
 state_did s ops op (Refused why) = s
-state_did s ops op reply = record s { runs = s.runs + runs_made op reply; own = Some (ops ++ op ∷ []) }
+state_did s ops op reply = record s {
+  runs = s.runs + runs_made (left ops s.committed) op reply;
+  own = Some (ops ++ op ∷ []);
+}
 
--- with what waits a load goes on, whatever it is answered
+-- with what waits a load or a put goes on, whatever it is answered
 abbrev pub state_done : DialogueState → List Op → Op → DialogueState
 state_done s ops op = state_did (record s { staged = staged_left s.staged op }) ops (with_staged s.staged op)
     (reply_due s ops (with_staged s.staged op))
@@ -138,10 +141,11 @@ wants_memory (Faulty fault.NoMemory) = true
 wants_memory (Replied (Refused NoMemory)) = true
 wants_memory _ = false
 
--- A line to which memory was refused did nothing; but where it is the load itself that was refused, what waited is let
--- go.
+-- A line to which memory was refused did nothing; but where it is the load or the put itself that was refused, what
+-- waited is let go.
 abbrev pub is_load_line : ParsedLine → Bool
 is_load_line (said.Asked (request.Do (Load records))) = true
+is_load_line (said.Asked (request.Do (Put records))) = true
 is_load_line _ = false
 
 abbrev pub is_refused_load : ParsedLine → Response → Bool
@@ -176,7 +180,7 @@ abbrev pub AreSay : List Exchange → Type 0
 AreSay exchanges = map (λ (e : Exchange). e.1) (without_upkeep (with_memory exchanges)) ≡
     say (map (λ (e : Exchange). e.0) (with_memory exchanges))
 
--- the line stages nothing; the load of the line wasn't refused memory
+-- the line stages nothing; the load or the put of the line wasn't refused memory
 abbrev pub StagesNothing : Exchange → Type 0
 StagesNothing e = is_stage (parsed e.0) ≡ false
 

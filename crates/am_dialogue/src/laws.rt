@@ -9,7 +9,7 @@ ghost use Rattle.am_dialogue.specs.Responses.{response_text};
 ghost use Rattle.am_dialogue.specs.Exchanges.{Exchange, with_torn};
 ghost use Rattle.am_dialogue.specs.Alone.{AnswersAlone};
 ghost use Rattle.am_dialogue.specs.Say.{DialogueState, Says, AreSay, StagesNothing, LosesNothing};
-ghost use Rattle.am_dialogue.specs.StagedLoads.{all_of, IsOneLoad};
+ghost use Rattle.am_dialogue.specs.StagedLoads.{all_of, load, put, IsAsOne};
 ghost use Rattle.am_record.specs.Records.{Records};
 ghost use Rattle.am_record.specs.declared.step.Op.{Op};
 
@@ -24,17 +24,19 @@ pub fn sound_dialogues_say()
     sound_traces_are_runs();
 }
 
-/// In one piece: where nothing is staged, or no load that the store was asked for was refused memory, the lines that
-/// found memory are answered as those lines alone would be.
+/// In one piece: where nothing is staged, or no load or put that the store was asked for was refused memory, the lines
+/// that found memory are answered as those lines alone would be.
 pub fn found_memory_is_said()
     ensures unstaged { (exchanges : List Exchange) → Says exchanges → All StagesNothing exchanges → AreSay exchanges }
     ensures found { (exchanges : List Exchange) → Says exchanges → All LosesNothing exchanges → AreSay exchanges }
 {}
 
-/// Lines that stage records and load them are answered as one LOAD of all of them would be.
+/// Lines that stage records and load or put them are answered as one LOAD or PUT of all of them would be.
 pub fn staging_is_loading()
-    ensures { (s : DialogueState) (ops : List Op) (staged : List Records) (last : Records) →
-        s.own ≡ Some ops → s.staged ≡ [] → length (all_of staged) ≤ 65536 → IsOneLoad s staged last }
+    ensures loads { (s : DialogueState) (ops : List Op) (staged : List Records) (last : Records) →
+        s.own ≡ Some ops → s.staged ≡ [] → length (all_of staged) ≤ 65536 → IsAsOne s staged load last }
+    ensures puts { (s : DialogueState) (ops : List Op) (staged : List Records) (last : Records) →
+        s.own ≡ Some ops → s.staged ≡ [] → length (all_of staged) ≤ 65536 → IsAsOne s staged put last }
 {}
 
 /// Where one session alone had its steps answered by the store, each answer is one line: an LF ends it, and no other

@@ -3,8 +3,8 @@
 ghost use Rattle.am_record.specs.Sessions.{active_after};
 ghost use Rattle.std.specs.Prelude.{◌≡◌, ◌≤◌, Some, [], length};
 ghost use Rattle.am_dialogue.specs.Session.{at_start, session_after};
-ghost use Rattle.am_dialogue.specs.Actions.{IsActionFor, IsActionForRequest, MayStage, MayLoad, IsAllowedAction};
-ghost use Rattle.am_dialogue.specs.Actions.{hold_action};
+ghost use Rattle.am_dialogue.specs.Actions.{IsActionFor, IsActionForRequest, MayStage, MayTakeAlong, MayGather};
+ghost use Rattle.am_dialogue.specs.Actions.{IsAllowedAction, hold_action};
 
 use crate::action::Action;
 use crate::lines::ParsedLine;
@@ -19,7 +19,7 @@ use std::marker::Model;
 const MAX_HOLD_MILLIS: u64 = 60_000;
 
 /// Where a session stands between two lines: the transaction that is active in it, and the records that were staged for
-/// its next load.
+/// its next load or put.
 pub struct Session {
     active: Option<u64>,
     staged: Vec<(Key, Value)>,
@@ -140,18 +140,26 @@ impl Session {
         ensures action { IsActionForRequest self.old (Request.Do op) result self.new }
         ensures allowed { IsAllowedAction self.old.active result }
     {
+        match self.take_along(op) {
+            Ok(whole) => Action::Take(Step::Do(tx, whole)),
+            Err(NoMemory) => Action::Answer(Response::Faulty(LineFault::NoMemory)),
+        }
+    }
+
+    // The operation with what was staged, which a load or a put takes along.
+    fn take_along(&mut self, op: Op) -> Result<Op, NoMemory>
+        ensures { MayTakeAlong self.old op result self.new }
+    {
         match op {
-            Op::Load(records) => match self.load(records) {
-                Ok(all) => Action::Take(Step::Do(tx, Op::Load(all))),
-                Err(NoMemory) => Action::Answer(Response::Faulty(LineFault::NoMemory)),
-            },
-            _ => Action::Take(Step::Do(tx, op)),
+            Op::Load(records) => Ok(Op::Load(self.gather(records)?)),
+            Op::Put(records) => Ok(Op::Put(self.gather(records)?)),
+            _ => Ok(op),
         }
     }
 
     // What was staged and then these records. Nothing is staged afterwards.
-    fn load(&mut self, records: Records) -> Result<Records, NoMemory>
-        ensures { MayLoad self.old records result self.new }
+    fn gather(&mut self, records: Records) -> Result<Records, NoMemory>
+        ensures { MayGather self.old records result self.new }
     {
         if self.staged.is_empty() {
             return Ok(records);
@@ -165,7 +173,7 @@ impl Session {
         Ok(Records::new(all))
     }
 
-    // Lets records wait for the next load.
+    // Lets records wait for the next load or put.
     fn stage(&mut self, records: Records) -> Response
         ensures { MayStage self.old records result self.new }
     {

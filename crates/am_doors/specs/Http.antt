@@ -35,9 +35,9 @@ is_number (first ∷ rest) = is_ascii_digit first && list_all is_digit_or_dot re
 abbrev pub is_version : List ℕ → Bool
 is_version word = begins_in_any_case word (codes "http/") && is_number (drop 5 word)
 
--- how those lines of the protocol begin that may end in a version: INS k v, REP k v and LOCK m lo hi
+-- how those lines of the protocol begin that may end in a version: INS k v, REP k v, SET k v and LOCK m lo hi
 abbrev pub own_fronts : List (List ℕ)
-own_fronts = codes "INS " ∷ codes "REP " ∷ codes "LOCK S " ∷ codes "LOCK X " ∷ []
+own_fronts = codes "INS " ∷ codes "REP " ∷ codes "SET " ∷ codes "LOCK S " ∷ codes "LOCK X " ∷ []
 
 -- whether a text, which no blank ends, has two words or more, and a version behind them
 abbrev pub ends_request : List ℕ → Bool

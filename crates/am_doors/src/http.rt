@@ -10,7 +10,7 @@ ghost use Rattle.am_doors.specs.Http.{ends_request, is_request_line, is_host_lin
 const MAX_LINE_LEN: usize = 4096;
 
 /// How those lines of the protocol begin that may end in a version.
-const OWN_FRONTS: [&[u8]; 4] = [b"INS ", b"REP ", b"LOCK S ", b"LOCK X "];
+const OWN_FRONTS: [&[u8]; 5] = [b"INS ", b"REP ", b"SET ", b"LOCK S ", b"LOCK X "];
 
 /// Whether a line, which may have a CR at its end, is one of HTTP: a request, or the header that names a host.
 #[tactic(auto, unfolding(crate::specs::Http::is_of_http))]

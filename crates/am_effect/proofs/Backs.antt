@@ -6,13 +6,15 @@ use Rattle.std.specs.List.{AllByRecursion}
 use Rattle.std.specs.Ordering.{eq_by_cmp}
 use Rattle.std.proofs.lemmas.Bool.{cases_Bool, cond-true, cond-false, both_ways, or_parts, or_left, or_right, or_cases}
 use Rattle.std.proofs.lemmas.Bool.{eqb-true, eqb-false}
+use Rattle.std.proofs.lemmas.List.Folds.{list_any-append}
 use Rattle.am_effect.proofs.Lists.{Stands, look-reslotted, look-reslotted_none, rising-reslotted, stands_all}
 use Rattle.am_effect.proofs.Lists.{tied_place}
 use Rattle.am_effect.proofs.NotesAtPlaces.{some_none, back, back-append, back_some, ghosted_stays, none_before}
 use Rattle.am_effect.proofs.NotesAtPlaces.{one_some}
 use Rattle.am_effect.proofs.NotesAtPlaces.{owned_more, run_before, run_later, some_or_none, unowned_leaves}
+use Rattle.am_effect.proofs.Sweeps.{sweeps_one}
 use Rattle.am_effect.specs.History.{Moment, left_at, or_made, wrote, wrote_by}
-use Rattle.am_effect.specs.Laws.{DescribeLaws, Describes, DifferAt, IsOfKey, taken_back}
+use Rattle.am_effect.specs.Laws.{DescribeLaws, Describes, DifferAt, IsOfKey, Sweeps, taken_back}
 use Rattle.am_effect.specs.Places.{look, reslotted, with_slot}
 use Rattle.am_index.proofs.Edits.{one_place}
 use Rattle.am_index.specs.Entries.{IsRising, Slot, slot_of}
@@ -20,7 +22,7 @@ use Rattle.am_record.specs.EntryOrder.{Place, place_cmp, place_of}
 use Rattle.am_record.specs.OrderedKey.{OrderedKey}
 use Rattle.am_record.specs.Plain.{fresh}
 use Rattle.am_record.specs.declared.entry.Entry.{Entry}
-use Rattle.am_record.proofs.Lists.{AllByRecursion-front, AllByRecursion-back}
+use Rattle.am_record.proofs.Lists.{AllByRecursion-append, AllByRecursion-front, AllByRecursion-back}
 use Rattle.am_serial.specs.Trace.{Effect}
 use Rattle.am_undo.specs.Notes.{ghosted}
 use Rattle.am_undo.specs.Undo.{is_noted_run}
@@ -33,6 +35,14 @@ pub unwritten : (t : ℕ) (a : Place) (past : List Moment) (es : List Entry) →
 unwritten t a [] es h = refl
 unwritten t a (m ∷ past) es h = cond-false (wrote t a.1 (m ∷ past)) (or_made (left_at t a past m.1) (look es a))
     (look es a) h
+
+-- a run that is noted, where newer notes are of none
+pub run_of_older : (new notes : List Note) → ((p : ℕ) → is_noted_run new p ≡ false) → (p : ℕ) →
+    is_noted_run (new ++ notes) p ≡ true → is_noted_run notes p ≡ true
+run_of_older new notes none p made = ⊎_elim
+    (λ h. absurd (both_ways (is_noted_run new p) (none p) h))
+    (λ h. h)
+    (or_cases (is_noted_run new p) (is_noted_run notes p) (sym (list_any-append _ new notes) ∙ made))
 
 module _ (t : ℕ) (past : List Moment) (es : List Entry) (notes : List Note) (u : Describes t past es notes) where
   -- keys that it didn't write are not touched
@@ -56,56 +66,30 @@ module _ (t : ℕ) (past : List Moment) (es : List Entry) (notes : List Note) (u
   written_at d es' a h = cond-true (wrote t a.1 ((d, es) ∷ past)) (or_made (left_at t a past es) (look es' a))
       (look es' a) h
 
-  -- a place that is as it was
-  kept : (d : Effect) (es' : List Entry) (a : Place) → look es' a ≡ look es a → left_at t a ((d, es) ∷ past) es' ≡
-      left_at t a past es
-  kept d es' a e = ⊎_elim
+  -- a place where nothing is made, and that is as it was where its key isn't written
+  stayed : (d : Effect) (es' : List Entry) (a : Place) → (look es a ≡ None → look es' a ≡ None) →
+      (wrote_by t a.1 d ≡ false → look es' a ≡ look es a) →
+      left_at t a ((d, es) ∷ past) es' ≡ left_at t a past es
+  stayed d es' a unmade same = ⊎_elim
       (λ yes. written_at d es' a yes ∙ by_slot (some_or_none (look es a)))
-      (λ not. unwritten t a ((d, es) ∷ past) es' not ∙ e ∙
-      sym (unwritten t a past es (or_parts (wrote_by t a.1 d) (wrote t a.1 past) not).1))
+      (λ not.
+      let parts = or_parts (wrote_by t a.1 d) (wrote t a.1 past) not in
+      unwritten t a ((d, es) ∷ past) es' not ∙ same parts.0 ∙ sym (unwritten t a past es parts.1))
       (cases_Bool (wrote t a.1 ((d, es) ∷ past)))
     where
       by_slot : ((look es a ≡ None) ⊎ ((s : Slot) × (look es a ≡ Some s))) →
           or_made (left_at t a past es) (look es' a) ≡ left_at t a past es
       by_slot w = ⊎_elim
-          (λ none. let x = nothing a none in ap (λ o. or_made o (look es' a)) x ∙ ap ghosted (e ∙ none) ∙ sym x)
+          (λ none. let x = nothing a none in ap (λ o. or_made o (look es' a)) x ∙ ap ghosted (unmade none) ∙ sym x)
           (λ some. let x = something a some.0 some.1 in ap (λ o. or_made o (look es' a)) x.1 ∙ sym x.1)
           w
 
-  -- a place of a key that is written now
-  changed_law : (d : Effect) (es' : List Entry) (p : ℕ) (k : OrderedKey) (s s' : Slot) → wrote_by t k d ≡ true →
-      look es (p, k) ≡ Some s → look es' (p, k) ≡ Some s' → DifferAt (p, k) es es' →
-      Describes t ((d, es) ∷ past) es' (Before p k s.0 s.1 ∷ notes)
-  changed_law d es' p k s s' w there there' differ = record {
-    same = λ a. ⊎_elim
-        (λ tie.
-        let here : a ≡ (p, k) = one_place a (p, k) tie in
-        let was : look es a ≡ Some s = ap (look es) here ∙ there in
-        let x = something a s was in
-        ap (back notes a) (cond-true _ (Some (s.0, s.1)) (look es' a) tie ∙ sym was) ∙ u.same a
-        ∙ x.1 ∙ sym (ap (λ o. or_made o (look es' a)) x.1)
-        ∙ sym (written_at d es' a (or_left _ _ (ap (λ (b : Place). wrote_by t b.1 d) here ∙ w))))
-        (λ apart.
-        let e : look es' a ≡ look es a = differ a (λ h. both_ways _ apart
-        (ap (λ (b : Place). eq_by_cmp place_cmp b (p, k)) h ∙ tied_place (p, k))) in
-        ap (back notes a) (cond-false _ (Some (s.0, s.1)) (look es' a) apart ∙ e) ∙ u.same a ∙ sym (kept d es' a e))
-        (cases_Bool (eq_by_cmp place_cmp a (p, k)));
-    stands = λ a none. ⊎_elim
-        (λ tie. absurd (some_none s' (sym there' ∙ ap (look es') (sym (one_place a (p, k) tie)) ∙ none)))
-        (λ apart.
-        let e : look es' a ≡ look es a = differ a (λ h. both_ways _ apart
-        (ap (λ (b : Place). eq_by_cmp place_cmp b (p, k)) h ∙ tied_place (p, k))) in
-        ap (back notes a) (cond-false _ (Some (s.0, s.1)) None apart) ∙ u.stands a (sym e ∙ none))
-        (cases_Bool (eq_by_cmp place_cmp a (p, k)));
-    owns = (or_left (wrote_by t k d) (wrote t k past) w, owns_more d es);
-    own_runs = λ q h r made.
-        let parts = or_parts (wrote_by t q d) (wrote t q past) h in
-        differ (r, q) (apart_from q r parts.0) ∙ u.own_runs q parts.1 r made;
-  }
-    where
-      apart_from : (q : OrderedKey) (r : ℕ) → wrote_by t q d ≡ false → ◌≢◌ {A = Place} (r, q) (p, k)
-      apart_from q r n h = both_ways (wrote_by t q d) n (ap (λ (b : Place). wrote_by t b.1 d) h ∙ w)
+  -- a place that is as it was
+  kept : (d : Effect) (es' : List Entry) (a : Place) → look es' a ≡ look es a → left_at t a ((d, es) ∷ past) es' ≡
+      left_at t a past es
+  kept d es' a e = stayed d es' a (λ none. e ∙ none) (λ not. e)
 
+  -- a place of a key that is written now
   made_law : (d : Effect) (es' : List Entry) (k : OrderedKey) (s : Slot) → wrote_by t k d ≡ true →
       look es (0, k) ≡ None → look es' (0, k) ≡ Some s → DifferAt (0, k) es es' →
       Describes t ((d, es) ∷ past) es' (New k ∷ notes)
@@ -186,6 +170,68 @@ module _ (t : ℕ) (past : List Moment) (es : List Entry) (notes : List Note) (u
       either_none : (b : Bool) (o : Option Slot) → o ≡ None → cond b (ghosted o) o ≡ None
       either_none true o h = ap ghosted h
       either_none false o h = h
+
+  swept_law : (d : Effect) (es' : List Entry) (new : List Note) → Sweeps t d es es' new →
+      Describes t ((d, es) ∷ past) es' (new ++ notes)
+  swept_law d es' new w = record {
+    same = λ a.
+        back-append new notes a (look es' a)
+        ∙ ap (back notes a) (w.taken_back a)
+        ∙ u.same a
+        ∙ sym (stayed d es' a (λ none. none_before new a (look es' a) (w.taken_back a ∙ none))
+        (λ not. w.others a.1 not a.0));
+    stands = λ a none.
+        let before : look es a ≡ None = w.stands a none in
+        back-append new notes a None
+        ∙ ap (back notes a) (ap (back new a) (sym none) ∙ w.taken_back a ∙ before)
+        ∙ u.stands a before;
+    owns = AllByRecursion-append (IsOfKey (λ q. wrote t q ((d, es) ∷ past))) new notes
+        (owned_more new (λ q. wrote_by t q d) (λ q. wrote t q ((d, es) ∷ past))
+        (λ q h. or_left (wrote_by t q d) (wrote t q past) h) w.owns)
+        (owns_more d es);
+    own_runs = λ q h p made.
+        let parts = or_parts (wrote_by t q d) (wrote t q past) h in
+        w.others q parts.0 p ∙ u.own_runs q parts.1 p (run_of_older new notes w.no_run p made);
+  }
+
+  then_swept_law : (d : Effect) (es' es'' : List Entry) (notes' new : List Note) → Describes t ((d, es) ∷ past) es'
+      notes' → Sweeps t d es' es'' new → ((a : Place) → look es a ≡ None → look es'' a ≡ look es' a) →
+      Describes t ((d, es) ∷ past) es'' (new ++ notes')
+  then_swept_law d es' es'' notes' new v w unmade = record {
+    same = λ a.
+        back-append new notes' a (look es'' a)
+        ∙ ap (back notes' a) (w.taken_back a)
+        ∙ v.same a
+        ∙ left_so a;
+    stands = λ a none.
+        let before : look es' a ≡ None = w.stands a none in
+        back-append new notes' a None
+        ∙ ap (back notes' a) (ap (back new a) (sym none) ∙ w.taken_back a ∙ before)
+        ∙ v.stands a before;
+    owns = AllByRecursion-append (IsOfKey (λ q. wrote t q ((d, es) ∷ past))) new notes'
+        (owned_more new (λ q. wrote_by t q d) (λ q. wrote t q ((d, es) ∷ past))
+        (λ q h. or_left (wrote_by t q d) (wrote t q past) h) w.owns)
+        v.owns;
+    own_runs = λ q h p made.
+        let parts = or_parts (wrote_by t q d) (wrote t q past) h in
+        w.others q parts.0 p ∙ v.own_runs q h p (run_of_older new notes' w.no_run p made);
+  }
+    where
+      left_so : (a : Place) → left_at t a ((d, es) ∷ past) es' ≡ left_at t a ((d, es) ∷ past) es''
+      left_so a = ⊎_elim
+          (λ yes. written_at d es' a yes ∙ by_slot (some_or_none (look es a)) ∙ sym (written_at d es'' a yes))
+          (λ not. unwritten t a ((d, es) ∷ past) es' not ∙
+          sym (w.others a.1 (or_parts (wrote_by t a.1 d) (wrote t a.1 past) not).0 a.0) ∙
+          sym (unwritten t a ((d, es) ∷ past) es'' not))
+          (cases_Bool (wrote t a.1 ((d, es) ∷ past)))
+        where
+          by_slot : ((look es a ≡ None) ⊎ ((s : Slot) × (look es a ≡ Some s))) →
+              or_made (left_at t a past es) (look es' a) ≡ or_made (left_at t a past es) (look es'' a)
+          by_slot x = ⊎_elim
+              (λ none. ap (or_made (left_at t a past es)) (sym (unmade a none)))
+              (λ some. let y = something a some.0 some.1 in ap (λ o. or_made o (look es' a)) y.1 ∙
+              sym (ap (λ o. or_made o (look es'' a)) y.1))
+              x
 
   others_law : (d : Effect) (es' : List Entry) → ((q : OrderedKey) → wrote_by t q d ≡ false) →
       ((q : OrderedKey) → wrote t q past ≡ true → (p : ℕ) → look es' (p, q) ≡ look es (p, q)) →
@@ -317,9 +363,12 @@ module _ (t : ℕ) (past : List Moment) (es : List Entry) (notes : List Note) (u
 
   pub describe_laws : DescribeLaws t past es notes
   describe_laws = record {
-    changed = changed_law t past es notes u;
+    changed = λ d es' p k s s' w there there' differ. swept_law t past es notes u d es' (Before p k s.0 s.1 ∷ [])
+        (sweeps_one t d es es' p k s s' w there there' differ);
     made = made_law t past es notes u;
     loaded = loaded_law t past es notes u;
+    swept = swept_law t past es notes u;
+    then_swept = then_swept_law t past es notes u;
     others = others_law t past es notes u;
     aborted = aborted_law;
   }

@@ -46,7 +46,7 @@ module _ (es : List Entry) (rise : IsRising es) (one : OnePlace es) where
       (ap (λ (q : OrderedKey). eq_by_cmp key_cmp q k) key ∙ key_eq-itself k))
 
   -- the live entry that is found is live under its key
-  found_live : (k : OrderedKey) (e : Entry) → find_live es k ≡ Some e → (e.key ≡ k) ×
+  pub found_live : (k : OrderedKey) (e : Entry) → find_live es k ≡ Some e → (e.key ≡ k) ×
       ((e.is_ghost ≡ false) × IsLiveAt es e.part e.key e.value)
   found_live k e h =
       let stands : Stands es e = first_such_all (Stands es) (is_live k) es e (stands_all es rise) h in

@@ -2,10 +2,12 @@ pub mod Lists
 pub mod Merges
 pub mod Maintenance
 pub mod NotesAtPlaces
+pub mod Sweeps
 pub mod Backs
 pub mod Marks
 pub mod TakenBack
 pub mod LookBacks
 pub mod KnownEdits
+pub mod Puts
 pub mod Next
 pub mod WrittenKeys

@@ -1,12 +1,15 @@
 -- No entry stands under a key that no operation wrote.
 use Rattle.std.proofs.Common.{ℕ, ◌+◌, zero, suc, List, [], ◌∷◌, Bool, true, false, take, filter, Option, Some, None}
-use Rattle.std.specs.Prelude.{is_some, if◌then◌else◌}
+use Rattle.std.specs.Prelude.{is_some, not, if◌then◌else◌}
 use Rattle.std.specs.Ordering.{is_eq, is_lt}
 use Rattle.std.specs.List.{AllByRecursion}
+use Rattle.std.specs.FinMap.{contains_key}
+use Rattle.std.proofs.lemmas.Bool.{cond_both}
 use Rattle.am_record.specs.OrderedKey.{OrderedKey}
 use Rattle.am_record.specs.EntryOrder.{place_of, place_cmp}
 use Rattle.am_record.specs.Interval.{Interval}
 use Rattle.am_record.specs.Records.{Records}
+use Rattle.am_record.specs.Plain.{PlainMap, scan_rows}
 use Rattle.am_record.specs.declared.entry.Entry.{Entry}
 use Rattle.am_record.specs.declared.step.Op.{Op}
 use Rattle.am_record.specs.declared.step.Op.TheVariants as op
@@ -15,13 +18,15 @@ use Rattle.am_record.specs.declared.step.Step.TheVariants as step
 use Rattle.am_record.specs.declared.step.Reply.{Reply}
 use Rattle.am_record.specs.declared.step.Reply.TheVariants as reply
 use Rattle.am_index.specs.Entries.{Slot, slot_of, find, insert_entry, set_entry, remove_entry}
+use Rattle.am_index.specs.Content.{content}
 use Rattle.am_index.specs.Runs.{live_entry, with_run}
 use Rattle.am_serial.specs.Trace.{Trace}
 use Rattle.am_effect.specs.Places.{put, with_slot, reslotted}
 use Rattle.am_effect.specs.MergeAnswers.{candidates, worked_off, all_worked_off, merged_by, cleanable}
 use Rattle.am_effect.specs.History.{left_at, moments_since, gone_back}
 use Rattle.am_effect.specs.Store.{Store, entries_after, after_step, after_all, holder}
-use Rattle.am_effect.specs.Operations.{find_live, with_value, with_ghost, changed}
+use Rattle.am_effect.specs.Operations.{find_live, with_value, with_ghost, with_record, with_ghosts, changed}
+use Rattle.am_effect.specs.Operations.{new_records, Update, updates, updated}
 use Rattle.am_effect.specs.WrittenKeys.{WritesKeys, StepWritesKeys, TraceWritesKeys, HaveKeys}
 
 module _ (P : OrderedKey → Type 0) where
@@ -97,12 +102,40 @@ module _ (P : OrderedKey → Type 0) where
   ghosted None es h = h
   ghosted (Some e) es h = set es e.part e.key e.value true h
 
+  recorded : (o : Option Entry) (k : OrderedKey) (v : List ℕ) (es : List Entry) → P k → HaveKeys P es →
+      HaveKeys P (with_record o k v es)
+  recorded None k v es p h = was_put (live_entry 0 (k, v)) es p h
+  recorded (Some e) k v es p h = valued (Some e) v es h
+
+  all_ghosted : (rs : Records) (es : List Entry) → HaveKeys P es → HaveKeys P (with_ghosts rs es)
+  all_ghosted [] es h = h
+  all_ghosted (r ∷ rs) es h = all_ghosted rs (with_ghost (find_live es r.0) es) (ghosted (find_live es r.0) es h)
+
+  all_valued : (us : List Update) (es : List Entry) → HaveKeys P es → HaveKeys P (updated us es)
+  all_valued [] es h = h
+  all_valued (u ∷ us) es h = all_valued us (with_value (Some u.0) u.1 es) (valued (Some u.0) u.1 es h)
+
+  of_new : (rs : Records) (m : PlainMap) → AllByRecursion (λ (r : OrderedKey × List ℕ). P r.0) rs →
+      AllByRecursion (λ (r : OrderedKey × List ℕ). P r.0) (new_records rs m)
+  of_new [] m p = tt
+  of_new (r ∷ rs) m p =
+      let rest = new_records rs m in
+      cond_both (not (contains_key m r.0)) (r ∷ rest) rest (AllByRecursion (λ (x : OrderedKey × List ℕ). P x.0))
+      (λ yes. (p.0, of_new rs m p.1)) (λ no. of_new rs m p.1)
+
   after_op : (back : List Entry) (runs : ℕ) (o : Op) (r : Reply) (es : List Entry) → WritesKeys P o → HaveKeys P back →
       HaveKeys P es → HaveKeys P (changed back runs o r es)
   after_op back runs (op.Insert k v) reply.Done es p b h = was_put (live_entry 0 (k, v)) es p h
   after_op back runs (op.Replace k v) reply.Done es p b h = valued (find_live es k) v es h
+  after_op back runs (op.Set k v) reply.Done es p b h = recorded (find_live es k) k v es p h
   after_op back runs (op.Delete k) reply.Done es p b h = ghosted (find_live es k) es h
+  after_op back runs (op.DeleteRange range max) (reply.Deleted n) es p b h =
+      all_ghosted (scan_rows range max (content es)) es h
   after_op back runs (op.Load pairs) reply.Done es p b h = run (runs + 1) pairs es p h
+  after_op back runs (op.Put pairs) reply.Done es p b h =
+      let new : Records = new_records pairs (content es) in
+      all_valued (updates pairs es) (with_run (runs + 1) new es)
+      (run (runs + 1) new es (of_new pairs (content es) p) h)
   after_op back runs op.Back reply.Done es p b h = b
   after_op back runs _ _ es p b h = h
 

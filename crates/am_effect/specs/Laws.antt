@@ -1,5 +1,6 @@
 -- When notes say what an abort by looking back leaves, and what maintenance keeps.
-use Rattle.std.specs.Prelude.{◌≡◌, ◌≢◌, ℕ, suc, ◌≤◌, length, List, [], ◌∷◌, Bool, true, false, Some, None}
+use Rattle.std.specs.Prelude.{◌≡◌, ◌≢◌, ℕ, suc, ◌≤◌, length, List, [], ◌∷◌, ◌++◌, Bool, true, false, Some}
+use Rattle.std.specs.Prelude.{None}
 use Rattle.std.specs.List.{AllByRecursion}
 use Rattle.am_record.specs.OrderedKey.{OrderedKey}
 use Rattle.am_record.specs.EntryOrder.{Place}
@@ -44,6 +45,18 @@ taken_back (n ∷ notes) es = taken_back notes (reslotted (back_one n) es)
 abbrev pub DifferAt : Place → List Entry → List Entry → Type 0
 DifferAt a es es' = (b : Place) → b ≢ a → look es' b ≡ look es b
 
+-- an event changes several places at once, and these notes are of all of them
+pub record Sweeps (t : ℕ) (d : Effect) (es es' : List Entry) (new : List Note) : Type 0 where
+  -- taken back, they leave at each place what stood there
+  pub taken_back : (a : Place) → back_all new a.0 a.1 (look es' a) ≡ look es a
+  -- what stood still stands
+  pub stands : (a : Place) → look es' a ≡ None → look es a ≡ None
+  -- a key that the transaction didn't write by the event stands as it stood
+  pub others : (q : OrderedKey) → wrote_by t q d ≡ false → (p : ℕ) → look es' (p, q) ≡ look es (p, q)
+  -- each note is of a key that it wrote so, and none of a run
+  pub owns : AllByRecursion (IsOfKey (λ q. wrote_by t q d)) new
+  pub no_run : (p : ℕ) → is_noted_run new p ≡ false
+
 -- what the transaction's own writes and the steps of others do to them
 pub record DescribeLaws (t : ℕ) (past : List Moment) (es : List Entry) (notes : List Note) : Type 0 where
   pub changed : (d : Effect) (es' : List Entry) (p : ℕ) (k : OrderedKey) (s s' : Slot) → wrote_by t k d ≡ true →
@@ -56,6 +69,12 @@ pub record DescribeLaws (t : ℕ) (past : List Moment) (es : List Entry) (notes 
       ((q : OrderedKey) → wrote_by t q d ≡ false → look es' (run, q) ≡ None) →
       ((p : ℕ) (q : OrderedKey) → p ≢ run → look es' (p, q) ≡ look es (p, q)) →
       Describes t ((d, es) ∷ past) es' (RunMade run ∷ notes)
+  pub swept : (d : Effect) (es' : List Entry) (new : List Note) → Sweeps t d es es' new →
+      Describes t ((d, es) ∷ past) es' (new ++ notes)
+  -- the event changes more places, all of which stood before it
+  pub then_swept : (d : Effect) (es' es'' : List Entry) (notes' new : List Note) → Describes t ((d, es) ∷ past) es'
+      notes' → Sweeps t d es' es'' new → ((a : Place) → look es a ≡ None → look es'' a ≡ look es' a) →
+      Describes t ((d, es) ∷ past) es'' (new ++ notes')
   -- a step of others, of maintenance, or one that writes nothing
   pub others : (d : Effect) (es' : List Entry) → ((q : OrderedKey) → wrote_by t q d ≡ false) →
       ((q : OrderedKey) → wrote t q past ≡ true → (p : ℕ) → look es' (p, q) ≡ look es (p, q)) →

@@ -1,28 +1,36 @@
 -- What each operation does, by its answer: which keys it writes, the wish that it leaves, and what it does to the
 -- entries, to the notes and to the marks.
-use Rattle.std.specs.Prelude.{ℕ, ◌+◌, List, [], ◌∷◌, Bool, true, false, ◌&&◌, not, Option, Some, None}
+use Rattle.std.specs.Prelude.{ℕ, ◌+◌, List, [], ◌∷◌, ◌++◌, Bool, true, false, ◌&&◌, not, filter, Option, Some, None}
+use Rattle.std.specs.List.{filter_map}
+use Rattle.std.specs.Option.{option_map}
 use Rattle.std.specs.Ordering.{eq_by_cmp}
+use Rattle.std.specs.FinMap.{contains_key}
 use Rattle.am_record.specs.OrderedKey.{OrderedKey, key_cmp}
-use Rattle.am_record.specs.Interval.{Interval, point}
-use Rattle.am_record.specs.Plain.{is_key_of}
+use Rattle.am_record.specs.Interval.{Interval, point, within}
+use Rattle.am_record.specs.Plain.{Records, PlainMap, is_key_of, scan_rows}
 use Rattle.am_record.specs.Marks.{until_mark, older}
 use Rattle.am_record.specs.declared.entry.Entry.{Entry}
 use Rattle.am_record.specs.declared.step.Op.{Op}
-use Rattle.am_record.specs.declared.step.Op.TheVariants.{Get, Scan, Insert, Replace, Delete, Load, Mark, Back}
+use Rattle.am_record.specs.declared.step.Op.TheVariants.{Get, Scan, ScanBack, Insert, Replace, Set, Delete}
+use Rattle.am_record.specs.declared.step.Op.TheVariants.{DeleteRange, Load, Put, Mark, Back}
 use Rattle.am_record.specs.declared.step.Reply.{Reply}
-use Rattle.am_record.specs.declared.step.Reply.TheVariants.{Done, Found, Absent, Rows}
+use Rattle.am_record.specs.declared.step.Reply.TheVariants.{Done, Found, Absent, Rows, Deleted}
 use Rattle.am_index.specs.Entries.{Slot, first_such, find, set_entry}
+use Rattle.am_index.specs.Content.{content}
 use Rattle.am_index.specs.Runs.{live_entry, with_run}
 use Rattle.am_undo.specs.declared.note.Note.{Note}
 use Rattle.am_undo.specs.declared.note.Note.TheVariants.{New, Before, RunMade}
 use Rattle.am_effect.specs.Places.{put}
 
--- whether the operation, with this answer, wrote the key
+-- whether the operation, with this answer, wrote the key: that it deletes from a range counts for all keys of the range
 abbrev pub writes : Op → Reply → OrderedKey → Bool
 writes (Insert k v) Done q = eq_by_cmp key_cmp q k
 writes (Replace k v) Done q = eq_by_cmp key_cmp q k
+writes (Set k v) Done q = eq_by_cmp key_cmp q k
 writes (Delete k) Done q = eq_by_cmp key_cmp q k
+writes (DeleteRange range max) (Deleted n) q = within range q
 writes (Load pairs) Done q = is_key_of pairs q
+writes (Put pairs) Done q = is_key_of pairs q
 writes _ _ q = false
 
 abbrev pub sets_mark : Op → Reply → Bool
@@ -44,6 +52,7 @@ abbrev pub wished : Op → Reply → Option Interval
 wished (Get k) (Found v) = Some (point k)
 wished (Get k) Absent = Some (point k)
 wished (Scan range max) (Rows rows) = Some range
+wished (ScanBack range max) (Rows rows) = Some range
 wished _ _ = None
 
 -- ---- entries
@@ -64,12 +73,46 @@ abbrev pub with_ghost : Option Entry → List Entry → List Entry
 with_ghost None es = es
 with_ghost (Some e) es = set_entry es e.part e.key e.value true
 
+-- the list with a record set: where it is live, or else in the final partition
+abbrev pub with_record : Option Entry → OrderedKey → List ℕ → List Entry → List Entry
+with_record None k v es = put (live_entry 0 (k, v)) es
+with_record (Some e) k v es = with_value (Some e) v es
+
+-- the list with the live entry of each record as a ghost
+abbrev pub with_ghosts : Records → List Entry → List Entry
+with_ghosts [] es = es
+with_ghosts (r ∷ rs) es = with_ghosts rs (with_ghost (find_live es r.0) es)
+
+-- the records whose keys the map lacks
+abbrev pub new_records : Records → PlainMap → Records
+new_records records m = filter (λ (r : OrderedKey × List ℕ). not (contains_key m r.0)) records
+
+-- a live entry, and the value that it gets
+abbrev pub Update : Type 0
+Update = Entry × List ℕ
+
+-- of each record whose key is live, its entry and the record's value
+abbrev pub update_of : List Entry → OrderedKey × List ℕ → Option Update
+update_of es r = option_map (λ (e : Entry). (e, r.1)) (find_live es r.0)
+
+abbrev pub updates : Records → List Entry → List Update
+updates records es = filter_map (update_of es) records
+
+-- the list with these values
+abbrev pub updated : List Update → List Entry → List Entry
+updated [] es = es
+updated (u ∷ us) es = updated us (with_value (Some u.0) u.1 es)
+
 -- what an operation with this answer does, after so many runs; Back leaves `back`
 abbrev pub changed : List Entry → ℕ → Op → Reply → List Entry → List Entry
 changed back runs (Insert k v) Done es = put (live_entry 0 (k, v)) es
 changed back runs (Replace k v) Done es = with_value (find_live es k) v es
+changed back runs (Set k v) Done es = with_record (find_live es k) k v es
 changed back runs (Delete k) Done es = with_ghost (find_live es k) es
+changed back runs (DeleteRange range max) (Deleted n) es = with_ghosts (scan_rows range max (content es)) es
 changed back runs (Load pairs) Done es = with_run (runs + 1) pairs es
+changed back runs (Put pairs) Done es =
+    updated (updates pairs es) (with_run (runs + 1) (new_records pairs (content es)) es)
 changed back runs Back Done es = back
 changed back runs _ _ es = es
 
@@ -84,12 +127,37 @@ abbrev pub note_of_entry : Option Entry → List Note
 note_of_entry None = []
 note_of_entry (Some e) = Before e.part e.key e.value e.is_ghost ∷ []
 
+-- the note of a record that is set
+abbrev pub note_of_record : Option Entry → OrderedKey → List Entry → Note
+note_of_record None k es = note_of_slot 0 k (find es 0 k)
+note_of_record (Some e) k es = Before e.part e.key e.value e.is_ghost
+
+-- the notes of records that are deleted one after another, the last one's first
+abbrev pub notes_of_ghosts : Records → List Entry → List Note
+notes_of_ghosts [] es = []
+notes_of_ghosts (r ∷ rs) es =
+    notes_of_ghosts rs (with_ghost (find_live es r.0) es) ++ note_of_entry (find_live es r.0)
+
+-- the notes of values, the last one's first
+abbrev pub notes_of_updates : List Update → List Note
+notes_of_updates [] = []
+notes_of_updates (u ∷ us) = notes_of_updates us ++ note_of_entry (Some u.0)
+
+-- the note of a run, where there are records for it
+abbrev pub note_of_run : ℕ → Records → List Note
+note_of_run run [] = []
+note_of_run run (r ∷ rs) = RunMade run ∷ []
+
 -- what an operation with this answer notes
 abbrev pub noted : ℕ → Op → Reply → List Entry → List Note
 noted runs (Insert k v) Done es = note_of_slot 0 k (find es 0 k) ∷ []
 noted runs (Replace k v) Done es = note_of_entry (find_live es k)
+noted runs (Set k v) Done es = note_of_record (find_live es k) k es ∷ []
 noted runs (Delete k) Done es = note_of_entry (find_live es k)
+noted runs (DeleteRange range max) (Deleted n) es = notes_of_ghosts (scan_rows range max (content es)) es
 noted runs (Load pairs) Done es = RunMade (runs + 1) ∷ []
+noted runs (Put pairs) Done es =
+    notes_of_updates (updates pairs es) ++ note_of_run (runs + 1) (new_records pairs (content es))
 noted runs _ _ es = []
 
 -- the notes that stay, by the marks: those taken back are gone

@@ -6,20 +6,22 @@ use Rattle.std.specs.List.{list_any, AllByRecursion}
 use Rattle.am_record.specs.OrderedKey.{OrderedKey}
 use Rattle.am_record.specs.Interval.{Interval, within}
 use Rattle.am_record.specs.Asks.{locks_of}
+use Rattle.am_record.specs.Plain.{PlainMap}
 use Rattle.am_record.specs.Owners.{holder_among}
 use Rattle.am_record.specs.declared.entry.Entry.{Entry}
 use Rattle.am_record.specs.declared.step.Refusal.TheVariants.{BadLimit}
-use Rattle.am_record.specs.declared.step.Op.TheVariants.{Load}
+use Rattle.am_record.specs.declared.step.Op.TheVariants.{Load, Put}
 use Rattle.am_record.specs.declared.step.Step.{Step}
 use Rattle.am_record.specs.declared.step.Step.TheVariants.{Begin, Do, Abort, Merge, Clean}
 use Rattle.am_record.specs.declared.step.Reply.{Reply}
 use Rattle.am_record.specs.declared.step.Reply.TheVariants.{Begun, Done, Aborted, Moved, Refused}
+use Rattle.am_index.specs.Content.{content}
 use Rattle.am_undo.specs.declared.note.Note.{Note}
 use Rattle.am_record.specs.Events.{Event}
 use Rattle.am_serial.specs.Trace.{Trace, effect, ops_of}
 use Rattle.am_record.specs.Refusals.{is_limit}
 use Rattle.am_serial.specs.Machine.{State, Transaction, start, May, next}
-use Rattle.am_effect.specs.Operations.{wished, changed, noted, notes_left, marks_left}
+use Rattle.am_effect.specs.Operations.{wished, new_records, changed, noted, notes_left, marks_left}
 use Rattle.am_effect.specs.MergeAnswers.{Holders, all_worked_off, MergeRight, merged_by, wishes_left}
 use Rattle.am_effect.specs.MergeAnswers.{CleanRight, cleaned_by}
 use Rattle.am_effect.specs.History.{Moment, aborted, gone_back}
@@ -120,14 +122,15 @@ abbrev pub all_moved_from : ℕ → Trace → ℕ
 all_moved_from run [] = 0
 all_moved_from run (e ∷ trace) = moved_from run e.0 e.1 + all_moved_from run trace
 
--- how many records the load of the run put there
-abbrev pub loaded_into : ℕ → ℕ → Step → Reply → ℕ
-loaded_into run runs (Do t (Load pairs)) Done = cond (runs + 1 == run) (length pairs) 0
-loaded_into run runs _ _ = 0
+-- how many records the load or the put that made the run put there, by how many runs there were and what was live
+abbrev pub loaded_into : ℕ → ℕ → PlainMap → Step → Reply → ℕ
+loaded_into run runs m (Do t (Load pairs)) Done = cond (runs + 1 == run) (length pairs) 0
+loaded_into run runs m (Do t (Put pairs)) Done = cond (runs + 1 == run) (length (new_records pairs m)) 0
+loaded_into run runs m _ _ = 0
 
 abbrev pub all_loaded_into : ℕ → Store → Trace → ℕ
 all_loaded_into run s [] = 0
-all_loaded_into run s (e ∷ trace) = loaded_into run s.state.runs e.0 e.1 + all_loaded_into run
+all_loaded_into run s (e ∷ trace) = loaded_into run s.state.runs (content s.entries) e.0 e.1 + all_loaded_into run
     (after_step s e.0 e.1) trace
 
 -- the event is an answered read of the key

@@ -4,7 +4,7 @@ use Rattle.std.specs.List.{AllByRecursion}
 use Rattle.am_record.specs.OrderedKey.{OrderedKey}
 use Rattle.am_record.specs.declared.entry.Entry.{Entry}
 use Rattle.am_record.specs.declared.step.Op.{Op}
-use Rattle.am_record.specs.declared.step.Op.TheVariants.{Insert, Load}
+use Rattle.am_record.specs.declared.step.Op.TheVariants.{Insert, Set, Load, Put}
 use Rattle.am_record.specs.declared.step.Step.{Step}
 use Rattle.am_record.specs.declared.step.Step.TheVariants.{Do}
 use Rattle.am_record.specs.Events.{Event}
@@ -13,7 +13,9 @@ use Rattle.am_serial.specs.Trace.{Trace}
 -- the keys under which the operation may make entries
 abbrev pub WritesKeys : (OrderedKey → Type 0) → Op → Type 0
 WritesKeys P (Insert k v) = P k
+WritesKeys P (Set k v) = P k
 WritesKeys P (Load pairs) = AllByRecursion (λ (r : OrderedKey × List ℕ). P r.0) pairs
+WritesKeys P (Put pairs) = AllByRecursion (λ (r : OrderedKey × List ℕ). P r.0) pairs
 WritesKeys P op = Unit {0}
 
 abbrev pub StepWritesKeys : (OrderedKey → Type 0) → Step → Type 0

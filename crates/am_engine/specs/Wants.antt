@@ -1,6 +1,6 @@
 -- When the step of an engine may be refused for want of memory.
 use Rattle.std.specs.Prelude.{◌≡◌, ◌⊎◌, ℕ, ◌<◌, Bool, true, false, if◌then◌else◌}
-use Rattle.am_record.specs.declared.step.Op.TheVariants.{Scan, Load}
+use Rattle.am_record.specs.declared.step.Op.TheVariants.{Scan, ScanBack, Load, Put}
 use Rattle.am_record.specs.declared.step.Step.{Step}
 use Rattle.am_record.specs.declared.step.Step.TheVariants.{Do}
 use Rattle.am_serial.specs.Trace.{Trace}
@@ -17,7 +17,9 @@ pairs_needed step = if is_begin step then 2 else 1
 -- whether its copy takes memory, or room for the rows of its reply
 abbrev pub takes_lists : Step → Bool
 takes_lists (Do t (Scan range max)) = true
+takes_lists (Do t (ScanBack range max)) = true
 takes_lists (Do t (Load pairs)) = true
+takes_lists (Do t (Put pairs)) = true
 takes_lists _ = false
 
 -- the store where the trace leads may want memory for the step

@@ -84,7 +84,7 @@ fn rows_of(step: &Step) -> usize
     ensures { result ≡ room_of step.now }
 {
     match step {
-        Step::Do(_, Op::Scan(_, max)) => {
+        Step::Do(_, Op::Scan(_, max) | Op::ScanBack(_, max)) => {
             let max = *max;
             if max <= 1000 { max as usize } else { 0 }
         }
@@ -118,6 +118,7 @@ pub(crate) fn copy_reply(alloc: Global, reply: &Reply, room: Room) -> Reply
         Reply::Rows(rows) => Reply::Rows(room.fill(alloc, rows)),
         Reply::Exists(key) => Reply::Exists(*key),
         Reply::Missing => Reply::Missing,
+        Reply::Deleted(n) => Reply::Deleted(*n),
         Reply::Committed(commit) => Reply::Committed(*commit),
         Reply::Aborted => Reply::Aborted,
         Reply::Moved(n, run) => Reply::Moved(*n, *run),

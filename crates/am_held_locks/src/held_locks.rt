@@ -167,7 +167,7 @@ fn list(listed: &mut Vec<Listed>, op: &Op) -> bool
     }
     match op {
         Op::Get(key) => listed.push_reserved(Listed::Read(*key)),
-        Op::Insert(key, _) | Op::Replace(key, _) | Op::Delete(key) => {
+        Op::Insert(key, _) | Op::Replace(key, _) | Op::Set(key, _) | Op::Delete(key) => {
             listed.push_reserved(Listed::Write(*key));
         }
         _ => {

@@ -1,10 +1,11 @@
 -- The live records of a partition in a range.
 use Rattle.std.proofs.Common.{◌≡◌, ◌≢◌, ℕ, zero, suc, ◌+◌, ◌<◌, ◌≤◌, add-one, Bool, true, false, ◌&&◌, not, eqb, cond}
-use Rattle.std.proofs.Common.{List, [], ◌∷◌, ◌++◌, length, get_or, take, drop, map, filter, if◌then◌else◌, append_assoc}
+use Rattle.std.proofs.Common.{List, [], ◌∷◌, ◌++◌, length, get_or, take, drop, reverse, map, filter, if◌then◌else◌}
+use Rattle.std.proofs.Common.{append_assoc, append-nil}
 use Rattle.std.proofs.Common.{refl, sym, ap, ◌∙◌, subst, ⊎_elim, arith}
-use Rattle.std.proofs.Math.Seq.{drop-cons}
+use Rattle.std.proofs.Math.Seq.{drop-cons, take-suc}
 use Rattle.std.proofs.lemmas.Bool.{cases_Bool, cond-true, cond-false, eqb-true, eq-eqb, and_right, and_from}
-use Rattle.std.proofs.lemmas.List.{take-append-drop, map-append, length-append}
+use Rattle.std.proofs.lemmas.List.{take-append-drop, map-append, length-append, reverse-append}
 use Rattle.std.proofs.lemmas.List.Elements.{filter-append}
 use Rattle.std.specs.List.{AllByRecursion}
 use Rattle.std.specs.declared.cmp.Ordering.{Ordering}
@@ -156,6 +157,24 @@ module _ (part : ℕ) (range : Interval) where
         at_dropped (λ e. place_cmp (place_of e) (part, range.hi) ≡ Greater) es to k d upper.above
         (omega (arith, past, le)) lt))
 
+    -- up to the greater bound there are all, and up to the lesser one there is none
+    pub rows_end_back : rows (take to es) ≡ rows es
+    rows_end_back =
+        sym (append-nil (rows (take to es)))
+        ∙ ap (λ l. rows (take to es) ++ l) (sym (rows_above (drop to es) upper.above))
+        ∙ sym (rows_in-append (take to es) (drop to es))
+        ∙ ap rows (take-append-drop to es)
+
+    pub rows_begin_back : (at : ℕ) → at ≤ from → rows (take at es) ≡ []
+    rows_begin_back at low = rows_below (take at es) (fewer at from es low lower.below)
+      where
+        fewer : (i n : ℕ) (xs : List Entry) → i ≤ n → AllBelow (part, range.lo) (take n xs) →
+            AllBelow (part, range.lo) (take i xs)
+        fewer zero n xs le all = tt
+        fewer (suc i) n [] le all = tt
+        fewer (suc i) zero (x ∷ xs) le all = absurd (omega (arith, le))
+        fewer (suc i) (suc n) (x ∷ xs) le all = (all.0, fewer i n xs (omega (arith, le)) all.1)
+
     module _ (at : ℕ) (e : Entry) (low : from ≤ at) (high : at < to) (inside : at < length es)
         (here : e ≡ get_or es at e) where
       in_range : counts e ≡ true
@@ -182,6 +201,26 @@ module _ (part : ℕ) (range : Interval) where
       rows_at_live live = step ∙ ap (λ l. l ++ rows (drop (at + 1) es))
           (cond-false e.is_ghost [] ((e.key, e.value) ∷ []) live)
 
+      step_back : rows (take (at + 1) es) ≡ rows (take at es) ++ row_of e
+      step_back =
+          ap (λ n. rows (take n es)) (add-one at)
+          ∙ ap rows (take-suc es at e inside ∙ ap (λ x. take at es ++ x ∷ []) (sym here))
+          ∙ rows_in-append (take at es) (e ∷ [])
+          ∙ ap (λ l. rows (take at es) ++ l) (rows-cons e [] in_range ∙ append-nil (row_of e))
+
+      -- from the greater bound down a ghost has none
+      pub back_past_ghost : e.is_ghost ≡ true → reverse (rows (take (at + 1) es)) ≡ reverse (rows (take at es))
+      back_past_ghost ghost = ap reverse (step_back
+          ∙ ap (λ l. rows (take at es) ++ l) (cond-true e.is_ghost [] ((e.key, e.value) ∷ []) ghost)
+          ∙ append-nil (rows (take at es)))
+
+      -- a live entry has the next one
+      pub back_at_live : e.is_ghost ≡ false →
+          reverse (rows (take (at + 1) es)) ≡ (e.key, e.value) ∷ reverse (rows (take at es))
+      back_at_live live = ap reverse (step_back ∙ ap (λ l. rows (take at es) ++ l)
+          (cond-false e.is_ghost [] ((e.key, e.value) ∷ []) live))
+          ∙ reverse-append (rows (take at es)) ((e.key, e.value) ∷ [])
+
 -- ---- rows that are copied from a list, until there are enough
 
 module _ (es : List Entry) (part : ℕ) (range : Interval) (max : ℕ) (begun : Records) where
@@ -194,6 +233,19 @@ module _ (es : List Entry) (part : ℕ) (range : Interval) (max : ℕ) (begun : 
       rows ≡ take max (begun ++ rows_in es part range)
   are_enough {rows} {at} h full = let fits = h.fits in
       sym (take_full max rows (rows_in (drop at es) part range) (omega (arith, fits, full))) ∙ h.same
+
+  -- ---- from the highest key down
+
+  -- of the entries before the index come the rows that are still wanting
+  pub record AreCopiedBack (rows : Records) (at : ℕ) : Type 0 where
+    pub fits : length rows ≤ max
+    pub same : take max (rows ++ reverse (rows_in (take at es) part range)) ≡ take max
+        (begun ++ reverse (rows_in es part range))
+
+  pub are_enough_back : {rows : Records} {at : ℕ} → AreCopiedBack rows at → max ≤ length rows →
+      rows ≡ take max (begun ++ reverse (rows_in es part range))
+  are_enough_back {rows} {at} h full = let fits = h.fits in
+      sym (take_full max rows (reverse (rows_in (take at es) part range)) (omega (arith, fits, full))) ∙ h.same
 
   module _ {from to : ℕ} {lo hi : OrderedKey} (lo_is : lo ≡ range.lo) (hi_is : hi ≡ range.hi)
       (lower' : IsLowerBound es part lo from) (upper' : IsUpperBound es part hi to) where
@@ -236,3 +288,38 @@ module _ (es : List Entry) (part : ℕ) (range : Interval) (max : ℕ) (begun : 
                 live))
                 ∙ h.same;
           }
+
+    pub none_copied_back : length begun ≤ max → AreCopiedBack begun to
+    none_copied_back fits = record {
+      fits = fits;
+      same = ap (λ l. take max (begun ++ reverse l)) (rows_end_back part range es lower upper);
+    }
+
+    pub all_copied_back : {rows : Records} {at : ℕ} → AreCopiedBack rows at → at ≤ from →
+        rows ≡ take max (begun ++ reverse (rows_in es part range))
+    all_copied_back {rows} {at} h past = sym (take_whole max rows h.fits) ∙
+        ap (λ l. take max (rows ++ reverse l)) (sym (rows_begin_back part range es lower upper at past)) ∙ h.same
+
+    module _ {rows : Records} {at : ℕ} (h : AreCopiedBack rows at) (e : Entry) (next : ℕ) (is : at ≡ next + 1)
+        (low : from ≤ next) (high : next < to) (inside : next < length es) (here : e ≡ get_or es next e) where
+      abbrev rest : Records
+      rest = reverse (rows_in (take next es) part range)
+
+      pub ghost_passed_back : e.is_ghost ≡ true → AreCopiedBack rows next
+      ghost_passed_back ghost = record {
+        fits = h.fits;
+        same = ap (λ l. take max (rows ++ l)) (sym (ap (λ n. reverse (rows_in (take n es) part range)) is
+            ∙ back_past_ghost part range es lower upper next e low high inside here ghost)) ∙ h.same;
+      }
+
+      pub row_copied_back : e.is_ghost ≡ false → {rows' : Records} → rows' ≡ rows ++ (e.key, e.value) ∷ [] →
+          length rows < max → AreCopiedBack rows' next
+      row_copied_back live {rows'} pushed room = record {
+        fits = omega (arith, room, ap length pushed, length-append rows ((e.key, e.value) ∷ []));
+        same =
+            ap (λ l. take max (l ++ rest)) pushed
+            ∙ ap (take max) (append_assoc rows ((e.key, e.value) ∷ []) rest)
+            ∙ ap (λ l. take max (rows ++ l)) (sym (ap (λ n. reverse (rows_in (take n es) part range)) is
+            ∙ back_at_live part range es lower upper next e low high inside here live))
+            ∙ h.same;
+      }

@@ -1,7 +1,7 @@
 //! What every index over partitions does.
 
-ghost use Rattle.std.specs.Prelude.{◌≡◌, ◌+◌, ◌<◌, ◌≤◌, ◌++◌, List, length, take, Some, None, IsSome, IfOk, OnOk};
-ghost use Rattle.std.specs.Prelude.{OnErr, is_some, is_none, vec_capacity, if◌then◌else◌};
+ghost use Rattle.std.specs.Prelude.{◌≡◌, ◌+◌, ◌<◌, ◌≤◌, ◌++◌, List, length, take, reverse, Some, None, IsSome, IfOk};
+ghost use Rattle.std.specs.Prelude.{OnOk, OnErr, is_some, is_none, vec_capacity, if◌then◌else◌};
 ghost use Rattle.std.specs.List.{AllByRecursion};
 ghost use Rattle.am_record.specs.declared.entry.Entry.{Entry};
 ghost use Rattle.am_index.specs.Entries.{find, next_any, next_ghost, next_from, after, all_from, all_after, entry_at};
@@ -69,6 +69,26 @@ pub trait PartIndex {
         requires { length rows.old.items ≤ max }
         ensures copied { OnOk result (rows.new.items ≡ take max
             (rows.old.items ++ rows_in (entries self.now) part range)) }
+        ensures room { vec_capacity rows.old ≤ vec_capacity rows.new }
+        ensures full { OnErr result (vec_capacity rows.old < max) }
+        ensures rising { IsRising (entries self.now) };
+
+    /// Appends the live records of the partition in the range, from the highest key down, until there are `max`
+    /// rows. The caller sees to it that there are no more than these. No memory is taken where there is room for
+    /// `max` rows.
+    ///
+    /// # Errors
+    /// NoMemory, where memory was refused. Some rows may have been appended.
+    fn copy_rows_back(
+        &self,
+        part: u32,
+        range: Range,
+        max: u64,
+        rows: &mut Vec<(Key, Value)>,
+    ) -> Result<(), NoMemory>
+        requires { length rows.old.items ≤ max }
+        ensures copied { OnOk result (rows.new.items ≡ take max
+            (rows.old.items ++ reverse (rows_in (entries self.now) part range))) }
         ensures room { vec_capacity rows.old ≤ vec_capacity rows.new }
         ensures full { OnErr result (vec_capacity rows.old < max) }
         ensures rising { IsRising (entries self.now) };

@@ -155,6 +155,27 @@ impl PartIndex for ListIndex {
         Ok(())
     }
 
+    fn copy_rows_back(
+        &self,
+        part: u32,
+        range: Range,
+        max: u64,
+        rows: &mut Vec<(Key, Value)>,
+    ) -> Result<(), NoMemory> {
+        let from = self.lower_bound(part, range.lo());
+        let to = self.upper_bound(part, range.hi());
+        for at in (from..to).rev() {
+            if rows.len() as u64 >= max {
+                return Ok(());
+            }
+            let entry = &self.items[at];
+            if !entry.is_ghost {
+                rows.push((entry.key, entry.value))?;
+            }
+        }
+        Ok(())
+    }
+
     fn next_any(&self, part: u32, key: Key) -> Option<Entry> {
         self.get(self.lower_bound(part, key))
     }

@@ -90,6 +90,16 @@ impl<I: PartIndex + Drop> PartIndex for Tight<I> {
         self.index.copy_rows(part, range, max, rows)
     }
 
+    fn copy_rows_back(
+        &self,
+        part: u32,
+        range: Range,
+        max: u64,
+        rows: &mut Vec<(Key, Value)>,
+    ) -> Result<(), NoMemory> {
+        self.index.copy_rows_back(part, range, max, rows)
+    }
+
     fn next_any(&self, part: u32, key: Key) -> Option<Entry> {
         self.index.next_any(part, key)
     }

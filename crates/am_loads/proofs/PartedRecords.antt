@@ -2,6 +2,7 @@
 use Rattle.std.proofs.Common.{◌≡◌, ℕ, ◌<◌, ◌≤◌, zero, suc, Bool, true, false, ◌&&◌, ◌||◌, not, cond, List, [], ◌∷◌}
 use Rattle.std.proofs.Common.{length, get_or, take, drop, filter, refl, sym, ap, ◌∙◌, subst, arith, ⊎_elim}
 use Rattle.std.proofs.lemmas.Bool.{cond-true, cond-false, cases_lt, true≢false, false≢true, false_from_ne_true}
+use Rattle.std.proofs.Math.Bool.{and-false}
 use Rattle.std.proofs.lemmas.List.{length-take-le, get_or-take, get_or_default}
 use Rattle.std.specs.declared.cmp.Ordering.{Ordering}
 use Rattle.std.specs.declared.cmp.Ordering.TheVariants.{Less, Equal, Greater}
@@ -118,15 +119,11 @@ none_below_from key rs sorted i r inside le k d from below =
 abbrev pub is_below : OrderedKey → OrderedKey → Bool
 is_below key q = is_lt (key_cmp q key)
 
-and_false : (b : Bool) → (b && false) ≡ false
-and_false true = refl
-and_false false = refl
-
 one_more : (passes here later last : Bool) → (here ≡ true → passes ≡ last) → cond passes (here || (later && last))
     (later && last) ≡ ((here || later) && last)
 one_more true true later last h = h refl
 one_more true false later last h = refl
-one_more false true later last h = subst (λ b. (later && b) ≡ b) (h refl) (and_false later)
+one_more false true later last h = subst (λ b. (later && b) ≡ b) (h refl) (and-false later)
 one_more false false later last h = refl
 
 module _ (test : OrderedKey → Bool) where

@@ -5,6 +5,7 @@ use crate::fault::Fault;
 use crate::indexes::list_of_five;
 use crate::loads::loads_of_a_list;
 use crate::plain_map::{plain_alone, plain_answers};
+use crate::rows_back::{rows_back_of_a_list, scans_back};
 use crate::texts::replies;
 use std::alloc::Global;
 
@@ -12,6 +13,8 @@ use std::alloc::Global;
 #[derive(Clone, Copy, Debug, PartialEq, Eq)]
 pub(crate) enum Call {
     ListOfFive,
+    RowsBackOfAList,
+    ScansBack,
     LoadsOfAList,
     PlainAnswers,
     PlainAlone,
@@ -20,8 +23,10 @@ pub(crate) enum Call {
 }
 
 /// All calls.
-pub(crate) const CALLS: [Call; 6] = [
+pub(crate) const CALLS: [Call; 8] = [
     Call::ListOfFive,
+    Call::RowsBackOfAList,
+    Call::ScansBack,
     Call::LoadsOfAList,
     Call::PlainAnswers,
     Call::PlainAlone,
@@ -33,6 +38,8 @@ impl Call {
     pub(crate) fn name(self) -> &'static str {
         match self {
             Call::ListOfFive => "list_of_five",
+            Call::RowsBackOfAList => "rows_back_of_a_list",
+            Call::ScansBack => "scans_back",
             Call::LoadsOfAList => "loads_of_a_list",
             Call::PlainAnswers => "plain_answers",
             Call::PlainAlone => "plain_alone",
@@ -45,6 +52,8 @@ impl Call {
     pub(crate) fn make(self, alloc: Global) -> Result<(), Fault> {
         match self {
             Call::ListOfFive => list_of_five(alloc),
+            Call::RowsBackOfAList => rows_back_of_a_list(alloc),
+            Call::ScansBack => scans_back(alloc),
             Call::LoadsOfAList => loads_of_a_list(alloc),
             Call::PlainAnswers => plain_answers(alloc),
             Call::PlainAlone => plain_alone(alloc),

@@ -44,8 +44,8 @@ fn add_again<I: PartIndex>(index: &mut I, entry: &Entry, before: &[Entry]) -> Re
     Ok(())
 }
 
-// Adds the entries, in their order, to an index that has none.
-fn fill<I: PartIndex>(index: &mut I, entries: &[Entry]) -> Result<(), Fault> {
+/// Adds the entries, in their order, to an index that has none.
+pub(crate) fn fill<I: PartIndex>(index: &mut I, entries: &[Entry]) -> Result<(), Fault> {
     for (count, entry) in entries.iter().enumerate() {
         add(index, entry, &entries[..count])?;
     }

@@ -10,6 +10,7 @@ mod indexes;
 mod loads;
 mod numbers;
 mod plain_map;
+mod rows_back;
 mod texts;
 
 use call::{CALLS, Call};

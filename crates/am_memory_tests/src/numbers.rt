@@ -7,7 +7,8 @@ pub(crate) fn value() -> Value {
     Value::new(b"a").unwrap()
 }
 
-fn live(part: u32, number: u64) -> Entry {
+/// The entry of the number in the partition.
+pub(crate) fn live(part: u32, number: u64) -> Entry {
     Entry {
         part,
         key: Key::of_u64(number),

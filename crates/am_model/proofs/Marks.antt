@@ -1,6 +1,6 @@
 -- What the notes since each mark lead back to.
 use Rattle.std.proofs.Common.{◌≡◌, ℕ, suc, ◌-◌, ◌≤◌, false, List, [], ◌∷◌, ◌++◌, length, take, map, Option, Some, arith}
-use Rattle.std.proofs.Common.{refl, sym, ap, ◌∙◌, subst}
+use Rattle.std.proofs.Common.{drop, refl, sym, ap, ◌∙◌, subst}
 use Rattle.std.specs.Prelude.{is_some}
 use Rattle.std.specs.Option.{option_flatten}
 use Rattle.std.specs.List.{AllByRecursion}
@@ -204,3 +204,34 @@ module _ (slots slots' : Cells) (log log' : DraftLog) (stand : IsUndoable slots 
 pub new_draft : (slots : Cells) (log : DraftLog) → slots ≡ empty → log.marks ≡ [] → draft slots log ≡ fresh empty
 new_draft slots log is none = ap (λ s. draft_at s log.notes log.marks) is ∙ ap (draft_at empty log.notes) none ∙
     ap (λ m. fresh m) live_empty
+
+-- ---- the newest mark goes, and its notes stay
+
+older_saved : (f : ℕ → PlainMap) (marks : List ℕ) → map f (older marks) ≡ drop 1 (map f marks)
+older_saved f [] = refl
+older_saved f (mark ∷ marks) = refl
+
+older_falling : (top : ℕ) (marks : List ℕ) → AreFalling top marks → AreFalling top (older marks)
+older_falling top [] falling = tt
+older_falling top (mark ∷ marks) falling = higher mark top marks falling.0 falling.1
+
+older_can : (notes : List Note) (slots : Cells) (marks : List ℕ) → CanEach notes slots marks →
+    CanEach notes slots (older marks)
+older_can notes slots [] can = tt
+older_can notes slots (mark ∷ marks) can = can.1
+
+module _ (slots : Cells) (log log' : DraftLog) (stand : IsUndoable slots log) (notes : log'.notes ≡ log.notes)
+    (marks : log'.marks ≡ older log.marks) where
+  pub unmarked : draft slots log' ≡ record { map = live slots; saved = drop 1 (draft slots log).saved }
+  unmarked =
+      ap (λ (ns : List Note). draft_at slots ns log'.marks) notes ∙ ap (draft_at slots log.notes) marks ∙
+      ap (λ (ms : List PlainMap). record { map = live slots; saved = ms })
+      (older_saved (saved_at log.notes slots) log.marks)
+
+  pub unmarked_stand : IsUndoable slots log'
+  unmarked_stand = record {
+    falling = subst (λ (ns : List Note). AreFalling (length ns) log'.marks) (sym notes)
+        (subst (AreFalling (length log.notes)) (sym marks) (older_falling (length log.notes) log.marks stand.falling));
+    can = subst (λ (ns : List Note). CanEach ns slots log'.marks) (sym notes)
+        (subst (CanEach log.notes slots) (sym marks) (older_can log.notes slots log.marks stand.can));
+  }

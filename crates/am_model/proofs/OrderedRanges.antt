@@ -1,7 +1,8 @@
 -- Entries whose keys rise, as a finite map, and those of them in a range.
-use Rattle.std.proofs.Common.{◌≡◌, ◌⊎◌, inl, inr, ℕ, ◌≤◌, length, List, [], ◌++◌, not, ◌&&◌, filter, take, refl, sym}
-use Rattle.std.proofs.Common.{ap, ◌∙◌, subst}
-use Rattle.std.proofs.lemmas.List.{append-nil, take_all}
+use Rattle.std.proofs.Common.{◌≡◌, ◌⊎◌, inl, inr, ℕ, ◌≤◌, length, List, [], ◌∷◌, ◌++◌, reverse, not, ◌&&◌, filter, take}
+use Rattle.std.proofs.Common.{refl}
+use Rattle.std.proofs.Common.{sym, ap, ◌∙◌, subst, append_assoc, Some, None}
+use Rattle.std.proofs.lemmas.List.{append-nil, reverse-append, take_all}
 use Rattle.std.proofs.Math.Seq.{take-append_seam}
 use Rattle.std.proofs.lemmas.List.Elements.{filter_agree}
 use Rattle.std.specs.declared.cmp.Ordering.{Ordering}
@@ -15,7 +16,7 @@ use Rattle.std.specs.FinMap.{from_entries, entries}
 use Rattle.am_record.specs.OrderedKey.{OrderedKey, key_cmp, key_cmp-total}
 use Rattle.am_record.specs.Interval.{Interval, key_le, within}
 use Rattle.am_record.specs.Plain.{Records, rows_where}
-use Rattle.am_model.specs.Slots.{Cell, records_of_cells, live}
+use Rattle.am_model.specs.Slots.{Cell, record_before, records_of_cells, live}
 use Rattle.am_model.proofs.SortedEntries.{rising, entries_stay}
 use Rattle.am_model.proofs.Live.{live_where, entries_live}
 
@@ -51,3 +52,33 @@ first_rows all rows rest max e few (inl none) =
     same ∙ sym (take_all max all (subst (λ xs. length xs ≤ max) same few))
 first_rows all rows rest max e few (inr full) =
     sym (ap (take max) (sym e) ∙ ap (λ n. take n (rows ++ rest)) (sym full) ∙ take-append_seam rows rest)
+
+-- ---- from the highest key down
+
+before_append : (k : OrderedKey) (s : Cell) (xs ys : Records) → record_before k s (xs ++ ys) ≡ record_before k s xs ++
+    ys
+before_append k None xs ys = refl
+before_append k (Some v) xs ys = refl
+
+cells_behind : (es : List (OrderedKey × Cell)) (k : OrderedKey) (s : Cell) →
+    records_of_cells (es ++ (k, s) ∷ []) ≡ records_of_cells es ++ record_before k s []
+cells_behind [] k s = refl
+cells_behind (e ∷ es) k s = ap (record_before e.0 e.1) (cells_behind es k s) ∙
+    before_append e.0 e.1 (records_of_cells es) (record_before k s [])
+
+-- one more is listed, or the place of a deleted record is passed
+module _ (rows all : Records) (cells left : List (OrderedKey × Cell)) (k : OrderedKey)
+    (h : rows ++ reverse (records_of_cells cells) ≡ all) where
+  pub listed_back : (v : List ℕ) → cells ≡ left ++ (k, Some v) ∷ [] →
+      (rows ++ (k, v) ∷ []) ++ reverse (records_of_cells left) ≡ all
+  listed_back v e =
+      append_assoc rows ((k, v) ∷ []) (reverse (records_of_cells left))
+      ∙ ap (λ (xs : Records). rows ++ xs) (sym (ap (λ es. reverse (records_of_cells es)) e ∙
+      ap reverse (cells_behind left k (Some v)) ∙ reverse-append (records_of_cells left) ((k, v) ∷ [])))
+      ∙ h
+
+  pub passed_back : cells ≡ left ++ (k, None) ∷ [] → rows ++ reverse (records_of_cells left) ≡ all
+  passed_back e =
+      ap (λ (xs : Records). rows ++ xs) (sym (ap (λ es. reverse (records_of_cells es)) e ∙
+      ap reverse (cells_behind left k None ∙ append-nil (records_of_cells left))))
+      ∙ h

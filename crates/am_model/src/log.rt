@@ -90,6 +90,14 @@ impl ChangeLog {
         Ok(())
     }
 
+    /// Drops the newest mark, and keeps the notes since. Takes no memory.
+    pub(crate) fn drop_mark(&mut self)
+        ensures notes { self.new.notes ≡ self.old.notes }
+        ensures marks { self.new.marks ≡ older self.old.marks }
+    {
+        let _ = self.marks.pop();
+    }
+
     /// Takes the notes since the newest mark back and drops the mark; where none stands it does nothing and answers
     /// false. Takes no memory.
     pub(crate) fn back(&mut self, records: &mut SortedRecords) -> bool

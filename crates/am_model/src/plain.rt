@@ -1,15 +1,16 @@
 //! A map that answers operations.
 
-ghost use Rattle.std.specs.Prelude.{◌≡◌, Option, None, Some, false, option_copied, IfOk, OnOk, OnErr};
+ghost use Rattle.std.specs.Prelude.{◌≡◌, Option, None, Some, false, option_copied, drop, IfOk, OnOk, OnErr};
 ghost use Rattle.std.specs.FinMap as map;
-ghost use Rattle.am_record.specs.Plain.{answer, draft_after, answers, left, fresh, insert_all};
-ghost use Rattle.am_record.specs.declared.step.Op.TheVariants.{Insert, Replace, Delete, Load, Mark, Back};
-ghost use Rattle.am_record.specs.Refusals.{is_load};
+ghost use Rattle.am_record.specs.Plain.{answer, draft_after, answers, left, fresh, insert_all, remove_all};
+ghost use Rattle.am_record.specs.declared.step.Op.TheVariants.{Insert, Replace, Delete, DeleteRange, Load, Put, Mark};
+ghost use Rattle.am_record.specs.declared.step.Op.TheVariants.{Back};
+ghost use Rattle.am_record.specs.Refusals.{may_make_run};
 ghost use Rattle.am_model.specs.Slots.{with_cell};
 
 use crate::log::ChangeLog;
 use crate::sorted_records::SortedRecords;
-use am_record::{Key, NoMemory, Op, Records, Reply, Value};
+use am_record::{Key, NoMemory, Op, Range, Records, Reply, Value};
 use std::alloc::Global;
 use std::marker::Model;
 
@@ -54,11 +55,11 @@ impl Plain {
         }
     }
 
-    /// Applies an operation. Want of memory leaves the map as it was, but for a load, after which the map is no use.
+    /// Applies an operation. Want of memory leaves the map as it was, but for a load or a put: then the map is no use.
     pub fn answer(&mut self, op: &Op) -> Result<Reply, NoMemory>
         ensures answer { IfOk result (λ reply. reply ≡ answer op.now self.old) }
         ensures after { OnOk result (self.new ≡ draft_after op.now self.old) }
-        ensures err { OnErr result (is_load op.now ≡ false → self.new ≡ self.old) }
+        ensures err { OnErr result (may_make_run op.now ≡ false → self.new ≡ self.old) }
     {
         match op {
             Op::Get(key) => Ok(self.records.get(*key).map_or(Reply::Absent, Reply::Found)),
@@ -66,10 +67,20 @@ impl Plain {
                 let alloc = self.log.allocator();
                 Ok(Reply::Rows(Records::new(self.records.rows(alloc, *range, *max)?)))
             }
+            Op::ScanBack(range, max) => {
+                let alloc = self.log.allocator();
+                Ok(Reply::Rows(Records::new(self.records.rows_back(alloc, *range, *max)?)))
+            }
             Op::Insert(key, value) => self.insert(*key, *value),
             Op::Replace(key, value) => self.replace(*key, *value),
+            Op::Set(key, value) => {
+                self.set(*key, Some(*value))?;
+                Ok(Reply::Done)
+            }
             Op::Delete(key) => self.delete(*key),
+            Op::DeleteRange(range, max) => self.delete_range(*range, *max),
             Op::Load(pairs) => self.load(pairs),
+            Op::Put(pairs) => self.put(pairs),
             Op::Lock(_) => Ok(Reply::Done),
             Op::Mark => self.mark(),
             Op::Back => Ok(self.back()),
@@ -164,6 +175,41 @@ impl Plain {
         Ok(Reply::Done)
     }
 
+    // The records are deleted above a mark of their own, so that want of memory goes back to it.
+    fn delete_range(&mut self, range: Range, max: u64) -> Result<Reply, NoMemory>
+        ensures answer { IfOk result (λ reply. reply ≡ answer (DeleteRange range max) self.old) }
+        ensures after { OnOk result (self.new ≡ draft_after (DeleteRange range max) self.old) }
+        ensures err { OnErr result (self.new ≡ self.old) }
+    {
+        let rows = self.records.rows(self.log.allocator(), range, max)?;
+        self.mark()?;
+        if self.remove_all(rows.as_slice()).is_err() {
+            let _ = self.back();
+            return Err(NoMemory);
+        }
+        self.drop_mark();
+        Ok(Reply::Deleted(rows.len() as u64))
+    }
+
+    // Deletes the records. After want of memory some of them may be there.
+    fn remove_all(&mut self, rows: &[(Key, Value)]) -> Result<(), NoMemory>
+        ensures ok { OnOk result (self.new.map ≡ remove_all rows.now self.old.map) }
+        ensures saved { self.new.saved ≡ self.old.saved }
+    {
+        for row in rows {
+            self.set(row.0, None)?;
+        }
+        Ok(())
+    }
+
+    // Drops the newest saved map.
+    fn drop_mark(&mut self)
+        ensures map { self.new.map ≡ self.old.map }
+        ensures saved { self.new.saved ≡ drop 1 self.old.saved }
+    {
+        self.log.drop_mark();
+    }
+
     fn load(&mut self, pairs: &Records) -> Result<Reply, NoMemory>
         ensures answer { IfOk result (λ reply. reply ≡ answer (Load pairs.now) self.old) }
         ensures after { OnOk result (self.new ≡ draft_after (Load pairs.now) self.old) }
@@ -171,6 +217,14 @@ impl Plain {
         if let Some(key) = self.records.least_taken(pairs.as_slice()) {
             return Ok(Reply::Exists(key));
         }
+        self.put_all(pairs.as_slice())?;
+        Ok(Reply::Done)
+    }
+
+    fn put(&mut self, pairs: &Records) -> Result<Reply, NoMemory>
+        ensures answer { IfOk result (λ reply. reply ≡ answer (Put pairs.now) self.old) }
+        ensures after { OnOk result (self.new ≡ draft_after (Put pairs.now) self.old) }
+    {
         self.put_all(pairs.as_slice())?;
         Ok(Reply::Done)
     }

@@ -3,7 +3,7 @@
 ghost use Rattle.std.specs.Prelude.{◌≡◌, Option, None, Some, cond, not, is_some, unwrap_or, IfOk, OnOk, OnErr};
 ghost use Rattle.std.specs.Prelude.{option_copied};
 ghost use Rattle.std.specs.FinMap as map;
-ghost use Rattle.am_record.specs.Plain.{scan_rows, least_taken};
+ghost use Rattle.am_record.specs.Plain.{scan_rows, scan_back_rows, least_taken};
 ghost use Rattle.am_model.specs.Least.{lesser_key};
 ghost use Rattle.am_model.specs.Slots.{live, IsNoPlace};
 ghost use Rattle.am_record.specs.OrderedKey.{OrderedKey};
@@ -153,6 +153,27 @@ impl SortedRecords {
     {
         let mut rows = Vec::new(alloc);
         for (key, slot) in self.by_key.range(range.lo()..=range.hi()) {
+            if rows.len() as u64 == max {
+                break;
+            }
+            if let Some(value) = slot {
+                rows.push((*key, *value))?;
+            }
+        }
+        Ok(rows)
+    }
+
+    /// The last records in the range, from the highest key down, `max` at most.
+    pub(crate) fn rows_back(
+        &self,
+        alloc: Global,
+        range: Range,
+        max: u64,
+    ) -> Result<Vec<(Key, Value)>, NoMemory>
+        ensures { IfOk result (λ rows. rows.items ≡ scan_back_rows range max (live self.now)) }
+    {
+        let mut rows = Vec::new(alloc);
+        for (key, slot) in self.by_key.range(range.lo()..=range.hi()).rev() {
             if rows.len() as u64 == max {
                 break;
             }

@@ -1,1 +1,3 @@
-mod Rooms
+pub mod Rooms
+pub mod Ghosts
+mod Updates

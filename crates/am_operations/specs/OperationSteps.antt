@@ -1,5 +1,5 @@
 -- What one operation of a transaction does to the partitions and to its log, once its lock is granted.
-use Rattle.std.specs.Prelude.{◌≡◌, ℕ, ◌+◌, length, List, ◌++◌, true}
+use Rattle.std.specs.Prelude.{◌≡◌, ◌+◌, length, List, ◌++◌, true}
 use Rattle.am_record.specs.declared.entry.Entry.{Entry}
 use Rattle.am_record.specs.declared.step.Op.{Op}
 use Rattle.am_record.specs.declared.step.Reply.{Reply}
@@ -19,7 +19,7 @@ pub record IsDone (op : Op) (reply : Reply) (parts : Partitions) (log : Log) (pa
   pub said : reply ≡ stored_answer op log.marks (content parts.entries)
   pub entries : parts'.entries ≡ changed (taken_back (since_mark log.marks log.notes) parts.entries) parts.runs op
       reply parts.entries
-  pub runs : parts'.runs ≡ parts.runs + runs_made op reply
+  pub runs : parts'.runs ≡ parts.runs + runs_made (content parts.entries) op reply
   pub notes : log'.notes ≡ noted parts.runs op reply parts.entries ++ notes_left op reply log.marks log.notes
   pub marks : log'.marks ≡ marks_left op reply (length log.notes) log.marks
 

@@ -4,8 +4,10 @@
 //! Each gets all the room that it needs first, and then changes anything. [`carry_out`] is the one way in.
 #![tactic(auto)]
 
+mod delete_range;
 mod loads;
 mod operation;
+mod puts;
 mod reads;
 mod savepoints;
 mod writes;

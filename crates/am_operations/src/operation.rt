@@ -3,21 +3,23 @@
 ghost use Rattle.std.specs.Prelude.{◌≡◌, true, false, ◌&&◌, nat_le, IfOk, OnErr};
 ghost use Rattle.am_record.specs.Plain.{is_orderly};
 ghost use Rattle.am_record.specs.Marks.{since_mark};
-ghost use Rattle.am_record.specs.Refusals.{is_load};
+ghost use Rattle.am_record.specs.Refusals.{may_make_run};
 ghost use Rattle.am_index.specs.Entries.{find};
 ghost use Rattle.am_index.specs.Rooms.{HaveRoom, KeepRoom};
 ghost use Rattle.am_index.specs.Runs.{NothingAbove};
 ghost use Rattle.am_undo.specs.Notes.{CanTakeBack, NotesFit};
 ghost use Rattle.am_operations.specs.OperationSteps.{IsDone, LeavesAlone, MayWantRoom};
 
+use crate::delete_range::delete_range;
 use crate::loads::load_pairs;
+use crate::puts::put_pairs;
 use crate::reads::get;
 use crate::savepoints::go_back;
-use crate::writes::{delete, insert, replace};
+use crate::writes::{delete, insert, replace, set};
 use am_index::PartIndex;
 use am_parts::Parts;
 use am_record::{NoMemory, Op, Records, Reply};
-use am_scan::scan;
+use am_scan::{scan, scan_back};
 use am_undo::UndoLog;
 use std::alloc::Global;
 
@@ -32,7 +34,7 @@ pub fn carry_out<I: PartIndex + Drop>(
     op: Op,
 ) -> Result<Reply, NoMemory>
     requires orderly { is_orderly op ≡ true }
-    requires room { (is_load op && nat_le 4294967294 parts.old.runs) ≡ false }
+    requires room { (may_make_run op && nat_le 4294967294 parts.old.runs) ≡ false }
     requires above { NothingAbove parts.old.runs parts.old.entries }
     requires back { CanTakeBack (since_mark log.old.marks log.old.notes) (find parts.old.entries) }
     requires noted { NotesFit parts.old.roomy log.old.notes }
@@ -48,10 +50,17 @@ pub fn carry_out<I: PartIndex + Drop>(
             let rows = scan(alloc, parts, range, max)?;
             Ok(Reply::Rows(Records::new(rows)))
         }
+        Op::ScanBack(range, max) => {
+            let rows = scan_back(alloc, parts, range, max)?;
+            Ok(Reply::Rows(Records::new(rows)))
+        }
         Op::Insert(key, value) => insert(parts, log, key, value),
         Op::Replace(key, value) => replace(parts, log, key, value),
+        Op::Set(key, value) => set(parts, log, key, value),
         Op::Delete(key) => delete(parts, log, key),
+        Op::DeleteRange(range, max) => delete_range(alloc, parts, log, range, max),
         Op::Load(pairs) => load_pairs(parts, log, pairs),
+        Op::Put(pairs) => put_pairs(alloc, parts, log, pairs),
         Op::Lock(_) => Ok(Reply::Done),
         Op::Mark => {
             log.mark()?;

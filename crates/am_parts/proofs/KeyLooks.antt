@@ -1,7 +1,7 @@
 -- The look for a live key, by what the catalog says.
 use Rattle.std.proofs.Common.{◌≡◌, ◌≢◌, ℕ, zero, suc, ◌+◌, ◌<◌, ◌≤◌, true, false, List, [], ◌∷◌, length, get_or, take}
 use Rattle.std.proofs.Common.{Option, Some, None, refl, sym, ap, ◌∙◌, subst, ⊎_elim, arith}
-use Rattle.std.specs.Prelude.{IsSome, IfSome, IfNone, is_some, ◌==◌}
+use Rattle.std.specs.Prelude.{IfSome, IfNone, is_some, ◌==◌}
 use Rattle.std.proofs.Math.Nat.{mod-eq_of_lt}
 use Rattle.std.proofs.lemmas.Bool.{or_cases, cases_eq, eqb-true, true≢false, false≢true}
 use Rattle.std.specs.List.{AllByRecursion}
@@ -115,34 +115,21 @@ pub of_none : {P : Type 0} (o : Option Entry) → ((e : Entry) → o ≡ Some e 
 of_none None not h = h
 of_none (Some e) not h = absurd (not e refl)
 
--- a key that is live has an entry that lives in the content
+-- a key that lives nowhere
 module _ (es : List Entry) (key : OrderedKey) (sound : AreWellFormed es) where
-  pub taken_in_final : is_some (live_value (find es 0 key)) ≡ true → IsSome (get (content es) key)
-  taken_in_final live = ap is_some (lives_found {es = es} {key = key} sound 0 live).in_content
-
-  pub taken_in_run : (o : Option Entry) → IfSome o (IsLiveEntry es key) → is_some o ≡ true →
-      IsSome (get (content es) key)
-  taken_in_run None h some = absurd (false≢true some)
-  taken_in_run (Some e) h some = ap is_some h.has
-
   pub none_lives : (o : Option Entry) → is_some (live_value (find es 0 key)) ≡ false → IfNone o (LivesInNoRun es key) →
       IfNone o (get (content es) key ≡ None)
   none_lives None dead none = lives_nowhere sound dead none
   none_lives (Some e) dead none = tt
 
-  dead_everywhere : (o : Option Entry) → is_some (live_value (find es 0 key)) ≡ false → IfNone o (LivesInNoRun es key) →
-      is_some o ≡ false → get (content es) key ≡ None
-  dead_everywhere None dead none h = lives_nowhere sound dead none
-  dead_everywhere (Some e) dead none h = absurd (true≢false h)
-
   -- what stands at a place where nothing lives is a ghost
-  pub vacant : (o : Option Entry) → is_some (live_value (find es 0 key)) ≡ false → IfNone o (LivesInNoRun es key) →
-      is_some o ≡ false → IsVacancy es key (vacancy_over (find es 0 key))
-  vacant o dead none h = by_cases (find es 0 key) refl
+  pub vacant : is_some (live_value (find es 0 key)) ≡ false → get (content es) key ≡ None →
+      IsVacancy es key (vacancy_over (find es 0 key))
+  vacant dead none = by_cases (find es 0 key) refl
     where
       by_cases : (s : Option Slot) → find es 0 key ≡ s → IsVacancy es key (vacancy_over s)
-      by_cases None is = (is, dead_everywhere o dead none h)
-      by_cases (Some (value, true)) is = (is, dead_everywhere o dead none h)
+      by_cases None is = (is, none)
+      by_cases (Some (value, true)) is = (is, none)
       by_cases (Some (value, false)) is = absurd (true≢false
           (sym (ap (λ (s : Option Slot). is_some (live_value s)) is) ∙ dead))
 

@@ -1,6 +1,6 @@
 -- What is seen of the partitions of an index, where a key lives in them, and what their changes do to the content.
 use Rattle.std.specs.Prelude.{◌≡◌, ◌≤◌, ◌<◌, ◌^◌, ℕ, List, [], ◌∷◌, length, take, Bool, true, false, Option, Some, None}
-use Rattle.std.specs.Prelude.{IsSome, is_some, refl, if◌then◌else◌}
+use Rattle.std.specs.Prelude.{is_some, refl, if◌then◌else◌}
 use Rattle.std.specs.List.{AllByRecursion}
 use Rattle.std.specs.Coded.{Coded, code_by, coded×, coded_ℕ, coded_list}
 use Rattle.std.specs.FinMap.{get, insert, remove}
@@ -85,9 +85,9 @@ abbrev pub content_set : List Entry → ℕ → OrderedKey → List ℕ → Bool
 content_set es part key value is_ghost = if is_ghost then content_without es part key else insert
     (content es) key value
 
--- what a new record of the key meets: the key is live; else a ghost of it may stand in the final partition, or nothing
+-- what a new record of the key meets: the live entry; else a ghost of it may stand in the final partition, or nothing
 abbrev pub IsVacancy : List Entry → OrderedKey → Vacancy → Type 0
-IsVacancy es key Taken = IsSome (get (content es) key)
+IsVacancy es key (Taken e) = IsLiveEntry es key e
 IsVacancy es key (Ghost value) = (find es 0 key ≡ Some (value, true)) × (get (content es) key ≡ None)
 IsVacancy es key Free = (find es 0 key ≡ None) × (get (content es) key ≡ None)
 

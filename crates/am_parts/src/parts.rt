@@ -1,7 +1,7 @@
 //! The partitions of an index, and the changes that keep each key live in at most one of them.
 
-ghost use Rattle.std.specs.Prelude.{◌≡◌, ◌⊎◌, ◌+◌, ◌<◌, ◌≤◌, ◌++◌, [], length, take, drop, true, false, Some, None};
-ghost use Rattle.std.specs.Prelude.{IsSome, is_some, IfSome, IfNone, Err, OnOk, OnErr, vec_capacity};
+ghost use Rattle.std.specs.Prelude.{◌≡◌, ◌⊎◌, ◌+◌, ◌<◌, ◌≤◌, ◌++◌, [], length, take, drop, reverse, true, false};
+ghost use Rattle.std.specs.Prelude.{Some, None, IsSome, is_some, IfSome, IfNone, Err, OnOk, OnErr, vec_capacity};
 ghost use Rattle.std.specs.List.{AllByRecursion};
 ghost use Rattle.std.specs.FinMap.{get};
 ghost use Rattle.am_record.specs.Plain.{insert_all, is_rising};
@@ -30,8 +30,8 @@ use std::marker::Model;
 /// What a new record of a key meets.
 #[derive(Clone, Copy, PartialEq, Eq)]
 pub enum Vacancy {
-    /// The key is live.
-    Taken,
+    /// The key is live: this entry has it.
+    Taken(Entry),
     /// A ghost of it stands in the final partition, with this value.
     Ghost(Value),
     /// Nothing of it stands there.
@@ -200,6 +200,29 @@ impl<I: PartIndex + Drop> Parts<I> {
         self.index.copy_rows(part, range, max, rows)
     }
 
+    /// Appends the live records of the partition in the range, from the highest key down, until there are `max`
+    /// rows. The caller sees to it that there are no more than these. No memory is taken where there is room for
+    /// `max` rows.
+    ///
+    /// # Errors
+    /// NoMemory, where memory was refused. Some rows may have been appended.
+    pub fn copy_rows_back(
+        &self,
+        part: u32,
+        range: Range,
+        max: u64,
+        rows: &mut Vec<(Key, Value)>,
+    ) -> Result<(), NoMemory>
+        requires { length rows.old.items ≤ max }
+        ensures copied { OnOk result (rows.new.items ≡ take max
+            (rows.old.items ++ reverse (rows_in self.now.entries part range))) }
+        ensures room { vec_capacity rows.old ≤ vec_capacity rows.new }
+        ensures full { OnErr result (vec_capacity rows.old < max) }
+        ensures sound { AreWellFormed self.now.entries }
+    {
+        self.index.copy_rows_back(part, range, max, rows)
+    }
+
     /// The first partition from that one on that has entries. The index isn't searched.
     pub fn next_part(&self, from: u32) -> Option<u32>
         ensures further { IfSome result (λ part. from ≤ part) }
@@ -275,8 +298,11 @@ impl<I: PartIndex + Drop> Parts<I> {
         ensures room { HaveRoom self.now.entries self.now.roomy }
     {
         let slot = self.find(0, key);
-        if is_live(&slot) || self.live_in_runs(key).is_some() {
-            return Vacancy::Taken;
+        if let Some(entry) = live_at(0, key, slot) {
+            return Vacancy::Taken(entry);
+        }
+        if let Some(entry) = self.live_in_runs(key) {
+            return Vacancy::Taken(entry);
         }
         vacancy_over(&slot)
     }
@@ -468,16 +494,6 @@ fn insert_or_forget<I: PartIndex + Drop>(
         catalog.take(part, is_live);
     }
     added
-}
-
-// Whether what stands at a place is live.
-fn is_live(slot: &Option<(Value, bool)>) -> bool
-    ensures { result ≡ is_some (live_value slot.now) }
-{
-    match slot {
-        Some((_, is_ghost)) => !*is_ghost,
-        None => false,
-    }
 }
 
 // What a new record meets, whose key is live nowhere, by what stands in the final partition.

@@ -8,14 +8,14 @@ use Rattle.am_record.specs.Locks.{is_exclusive, conflicts, with_lock}
 use Rattle.am_record.specs.declared.lock.Mode.TheVariants.{Shared, Exclusive}
 use Rattle.am_record.specs.declared.lock.Lock.{Lock}
 use Rattle.am_record.specs.declared.step.Op.{Op}
-use Rattle.am_record.specs.declared.step.Op.TheVariants.{Get, Scan, Insert, Replace, Delete, Load, Lock as TakeLock}
-use Rattle.am_record.specs.declared.step.Op.TheVariants.{Mark, Back}
+use Rattle.am_record.specs.declared.step.Op.TheVariants.{Get, Scan, ScanBack, Insert, Replace, Set, Delete}
+use Rattle.am_record.specs.declared.step.Op.TheVariants.{DeleteRange, Load, Put, Lock as TakeLock, Mark, Back}
 
 abbrev pub last_key : OrderedKey → Records → OrderedKey
 last_key k [] = k
 last_key k (r ∷ rs) = last_key r.0 rs
 
--- from the first key to the last. A load of no records is refused before it asks for a lock
+-- from the first key to the last. A load or a put of no records is refused before it asks for a lock
 abbrev pub span : Records → Interval
 span [] = point key_least
 span (r ∷ rs) = record { lo = r.0; hi = last_key r.0 rs }
@@ -24,10 +24,14 @@ span (r ∷ rs) = record { lo = r.0; hi = last_key r.0 rs }
 abbrev pub lock_of : Op → Option Lock
 lock_of (Get k) = Some (record { mode = Shared; range = point k })
 lock_of (Scan range max) = Some (record { mode = Shared; range = range })
+lock_of (ScanBack range max) = Some (record { mode = Shared; range = range })
 lock_of (Insert k v) = Some (record { mode = Exclusive; range = point k })
 lock_of (Replace k v) = Some (record { mode = Exclusive; range = point k })
+lock_of (Set k v) = Some (record { mode = Exclusive; range = point k })
 lock_of (Delete k) = Some (record { mode = Exclusive; range = point k })
+lock_of (DeleteRange range max) = Some (record { mode = Exclusive; range = range })
 lock_of (Load pairs) = Some (record { mode = Exclusive; range = span pairs })
+lock_of (Put pairs) = Some (record { mode = Exclusive; range = span pairs })
 lock_of (TakeLock lock) = Some lock
 lock_of Mark = None
 lock_of Back = None

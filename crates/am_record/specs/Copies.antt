@@ -1,15 +1,16 @@
 -- What holds a list of records: a copy of anything else takes no memory.
 use Rattle.std.specs.Prelude.{Bool, true, false}
 use Rattle.am_record.specs.declared.step.Op.{Op}
-use Rattle.am_record.specs.declared.step.Op.TheVariants.{Load}
+use Rattle.am_record.specs.declared.step.Op.TheVariants.{Load, Put}
 use Rattle.am_record.specs.declared.step.Step.{Step}
 use Rattle.am_record.specs.declared.step.Step.TheVariants.{Do}
 use Rattle.am_record.specs.declared.step.Reply.{Reply}
 use Rattle.am_record.specs.declared.step.Reply.TheVariants.{Rows}
 
--- an operation with pairs is a load
+-- an operation with pairs is a load or a put
 abbrev pub has_pairs : Op → Bool
 has_pairs (Load pairs) = true
+has_pairs (Put pairs) = true
 has_pairs op = false
 
 abbrev pub step_has_pairs : Step → Bool

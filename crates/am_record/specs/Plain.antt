@@ -1,5 +1,6 @@
 -- The plain map: what each operation answers on it and leaves of it, and what a list of operations gets alone.
-use Rattle.std.specs.Prelude.{ℕ, List, [], ◌∷◌, Bool, true, false, cond, filter, take, Option, Some, None}
+use Rattle.std.specs.Prelude.{ℕ, List, [], ◌∷◌, Bool, true, false, cond, not, filter, take, reverse, length}
+use Rattle.std.specs.Prelude.{Option, Some, None}
 use Rattle.std.specs.List.{list_any}
 use Rattle.std.specs.Ordering.{eq_by_cmp}
 use Rattle.std.specs.FinMap.{FinMap, get, contains_key, insert, remove, entries, is_sorted}
@@ -7,9 +8,10 @@ use Rattle.am_record.specs.OrderedKey.{OrderedKey, key_cmp}
 use Rattle.am_record.specs.Interval.{Interval, within}
 pub use Rattle.am_record.specs.Records.{Records}
 use Rattle.am_record.specs.declared.step.Op.{Op}
-use Rattle.am_record.specs.declared.step.Op.TheVariants.{Get, Scan, Insert, Replace, Delete, Load, Lock, Mark, Back}
+use Rattle.am_record.specs.declared.step.Op.TheVariants.{Get, Scan, ScanBack, Insert, Replace, Set, Delete}
+use Rattle.am_record.specs.declared.step.Op.TheVariants.{DeleteRange, Load, Put, Lock, Mark, Back}
 use Rattle.am_record.specs.declared.step.Reply.{Reply}
-use Rattle.am_record.specs.declared.step.Reply.TheVariants.{Done, Found, Absent, Rows, Exists, Missing, NoMark}
+use Rattle.am_record.specs.declared.step.Reply.TheVariants.{Done, Found, Absent, Rows, Exists, Missing, Deleted, NoMark}
 
 -- from keys to the bytes of their values
 abbrev pub PlainMap : Type 0
@@ -25,6 +27,10 @@ rows_where test m = filter (λ (e : OrderedKey × List ℕ). test e.0) (entries 
 abbrev pub scan_rows : Interval → ℕ → PlainMap → Records
 scan_rows range max m = take max (rows_where (within range) m)
 
+-- what a scan back answers: the last records in the range, from the highest key down
+abbrev pub scan_back_rows : Interval → ℕ → PlainMap → Records
+scan_back_rows range max m = take max (reverse (rows_where (within range) m))
+
 -- whether the key is that of a record
 abbrev pub is_key_of : Records → OrderedKey → Bool
 is_key_of records k = list_any (λ (r : OrderedKey × List ℕ). eq_by_cmp key_cmp k r.0) records
@@ -34,6 +40,11 @@ abbrev pub insert_all : Records → PlainMap → PlainMap
 insert_all [] m = m
 insert_all (r ∷ rs) m = insert_all rs (insert m r.0 r.1)
 
+-- the map without the records' keys
+abbrev pub remove_all : Records → PlainMap → PlainMap
+remove_all [] m = m
+remove_all (r ∷ rs) m = remove_all rs (remove m r.0)
+
 -- the least of the records' keys that the map has
 abbrev pub first_key : Records → Option OrderedKey
 first_key [] = None
@@ -41,6 +52,10 @@ first_key (row ∷ rows) = Some row.0
 
 abbrev pub least_taken : Records → PlainMap → Option OrderedKey
 least_taken records m = first_key (rows_where (is_key_of records) m)
+
+-- whether the map lacks the key of one of the records
+abbrev pub has_new : Records → PlainMap → Bool
+has_new records m = list_any (λ (r : OrderedKey × List ℕ). not (contains_key m r.0)) records
 
 -- ---- one operation on a map
 
@@ -56,10 +71,14 @@ exists_or_done (Some key) = Exists key
 abbrev pub map_answer : Op → PlainMap → Reply
 map_answer (Get k) m = found (get m k)
 map_answer (Scan range max) m = Rows (scan_rows range max m)
+map_answer (ScanBack range max) m = Rows (scan_back_rows range max m)
 map_answer (Insert k v) m = cond (contains_key m k) (Exists k) Done
 map_answer (Replace k v) m = cond (contains_key m k) Done Missing
+map_answer (Set k v) m = Done
 map_answer (Delete k) m = cond (contains_key m k) Done Missing
+map_answer (DeleteRange range max) m = Deleted (length (scan_rows range max m))
 map_answer (Load pairs) m = exists_or_done (least_taken pairs m)
+map_answer (Put pairs) m = Done
 map_answer (Lock lock) m = Done
 map_answer Mark m = Done
 map_answer Back m = Done
@@ -73,10 +92,14 @@ load_where (Some key) pairs m = m
 abbrev pub map_after : Op → PlainMap → PlainMap
 map_after (Get k) m = m
 map_after (Scan range max) m = m
+map_after (ScanBack range max) m = m
 map_after (Insert k v) m = cond (contains_key m k) m (insert m k v)
 map_after (Replace k v) m = cond (contains_key m k) (insert m k v) m
+map_after (Set k v) m = insert m k v
 map_after (Delete k) m = remove m k
+map_after (DeleteRange range max) m = remove_all (scan_rows range max m) m
 map_after (Load pairs) m = load_where (least_taken pairs m) pairs m
+map_after (Put pairs) m = insert_all pairs m
 map_after (Lock lock) m = m
 map_after Mark m = m
 map_after Back m = m
@@ -128,7 +151,7 @@ answers ops m = answers_on ops (fresh m)
 abbrev pub left : List Op → PlainMap → PlainMap
 left ops m = (left_on ops (fresh m)).map
 
--- ---- loads in order
+-- ---- records in order
 
 -- whether there are records and they rise strictly by key
 abbrev pub is_rising : Records → Bool
@@ -138,4 +161,5 @@ is_rising (r ∷ rs) = is_sorted key_cmp (r ∷ rs)
 -- whether the operation is none that is refused for the order of its records
 abbrev pub is_orderly : Op → Bool
 is_orderly (Load pairs) = is_rising pairs
+is_orderly (Put pairs) = is_rising pairs
 is_orderly op = true

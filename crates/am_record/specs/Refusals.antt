@@ -5,7 +5,7 @@ use Rattle.am_record.specs.Locks.{is_covered}
 use Rattle.am_record.specs.Plain.{is_orderly}
 use Rattle.am_record.specs.declared.lock.Lock.{Lock}
 use Rattle.am_record.specs.declared.step.Op.{Op}
-use Rattle.am_record.specs.declared.step.Op.TheVariants.{Scan, Load}
+use Rattle.am_record.specs.declared.step.Op.TheVariants.{Scan, ScanBack, DeleteRange, Load, Put}
 use Rattle.am_record.specs.declared.step.Refusal.{Refusal}
 use Rattle.am_record.specs.declared.step.Refusal.TheVariants.{NoSuchTx, Busy, TooManyLocks, TooManyOps, TooManyRuns}
 use Rattle.am_record.specs.declared.step.Refusal.TheVariants.{NotRising, BadLimit}
@@ -14,14 +14,22 @@ use Rattle.am_record.specs.declared.step.Refusal.TheVariants.{NotRising, BadLimi
 abbrev pub is_limit : ℕ → Bool
 is_limit limit = nat_le 1 limit && nat_le limit max_limit
 
--- whether a scan's number of rows is within its limits
+-- whether a number of rows is within its limits
+abbrev pub is_row_limit : ℕ → Bool
+is_row_limit max = nat_le 1 max && nat_le max max_rows
+
+-- whether the number of rows of a scan, or of records that a range loses, is within its limits
 abbrev pub is_bounded : Op → Bool
-is_bounded (Scan range max) = nat_le 1 max && nat_le max max_rows
+is_bounded (Scan range max) = is_row_limit max
+is_bounded (ScanBack range max) = is_row_limit max
+is_bounded (DeleteRange range max) = is_row_limit max
 is_bounded _ = true
 
-abbrev pub is_load : Op → Bool
-is_load (Load pairs) = true
-is_load _ = false
+-- whether the operation makes a run on some map
+abbrev pub may_make_run : Op → Bool
+may_make_run (Load pairs) = true
+may_make_run (Put pairs) = true
+may_make_run _ = false
 
 -- the refusal of an operation that is due before its lock is asked for: by whether the transaction is active, how many
 -- operations it was answered, and whether no further run may be made
@@ -31,7 +39,7 @@ refusal_before_lock is_active ops is_full op =
     (cond (nat_le max_ops ops) (Some TooManyOps)
     (cond (not (is_orderly op)) (Some NotRising)
     (cond (not (is_bounded op)) (Some BadLimit)
-    (cond (is_load op && is_full) (Some TooManyRuns)
+    (cond (may_make_run op && is_full) (Some TooManyRuns)
     None))))
 
 -- whether the lock would be added to as many held ones as there may be

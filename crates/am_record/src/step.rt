@@ -5,7 +5,7 @@ ghost use Rattle.std.specs.Prelude.{◌≡◌, true, IfOk, OnErr};
 ghost use Rattle.am_record.specs.Asks.{lock_of, span};
 ghost use Rattle.am_record.specs.Copies.{has_pairs, step_has_pairs, has_rows};
 ghost use Rattle.am_record.specs.Plain.{is_orderly, is_rising};
-ghost use Rattle.am_record.specs.Refusals.{is_bounded, is_limit, is_load, refusal_before_lock};
+ghost use Rattle.am_record.specs.Refusals.{is_bounded, is_limit, may_make_run, refusal_before_lock};
 
 use crate::key::Key;
 use crate::limits::{MAX_LIMIT, MAX_OPS, MAX_ROWS};
@@ -23,14 +23,22 @@ pub enum Op {
     Get(Key),
     /// The first records of the range by key, at most so many: [`Reply::Rows`].
     Scan(Range, u64),
+    /// The last records of the range, from the highest key down, at most so many: [`Reply::Rows`].
+    ScanBack(Range, u64),
     /// A new record: [`Reply::Done`], or [`Reply::Exists`] where the key has one.
     Insert(Key, Value),
     /// Another value for a record: [`Reply::Done`], or [`Reply::Missing`] where there is none.
     Replace(Key, Value),
+    /// A record with this value, whether or not the key has one: [`Reply::Done`].
+    Set(Key, Value),
     /// A record goes: [`Reply::Done`], or [`Reply::Missing`] where there is none.
     Delete(Key),
+    /// The first records of the range go, at most so many: [`Reply::Deleted`].
+    DeleteRange(Range, u64),
     /// New records, all of them or none: [`Reply::Done`], or [`Reply::Exists`] with the least key that has one.
     Load(Records),
+    /// Records with these values, whether or not their keys have one: [`Reply::Done`]. Those that are new are one run.
+    Put(Records),
     /// The lock alone: [`Reply::Done`].
     Lock(Lock),
     /// A savepoint: [`Reply::Done`].
@@ -63,6 +71,8 @@ pub enum Reply {
     Rows(Records),
     Exists(Key),
     Missing,
+    /// So many records went.
+    Deleted(u64),
     /// The number of the commit: they rise by one from 1.
     Committed(u64),
     Aborted,
@@ -96,7 +106,7 @@ pub enum Refusal {
     TooManyOps,
     /// As many runs were made as may be, or 65,535 have entries.
     TooManyRuns,
-    /// The pairs of a load don't rise strictly by key, or there are none.
+    /// The pairs of a load or a put don't rise strictly by key, or there are none.
     NotRising,
     /// A limit is out of its range.
     BadLimit,
@@ -107,7 +117,7 @@ pub enum Refusal {
 }
 
 impl Op {
-    /// The same operation. Only a load's pairs take memory.
+    /// The same operation. Only the pairs of a load or a put take memory.
     pub fn copy(&self, alloc: Global) -> Result<Op, NoMemory>
         ensures same { IfOk result (λ op. op ≡ self.now) }
         ensures memory { OnErr result (has_pairs self.now ≡ true) }
@@ -115,40 +125,47 @@ impl Op {
         Ok(match self {
             Op::Get(key) => Op::Get(*key),
             Op::Scan(range, max) => Op::Scan(*range, *max),
+            Op::ScanBack(range, max) => Op::ScanBack(*range, *max),
             Op::Insert(key, value) => Op::Insert(*key, *value),
             Op::Replace(key, value) => Op::Replace(*key, *value),
+            Op::Set(key, value) => Op::Set(*key, *value),
             Op::Delete(key) => Op::Delete(*key),
+            Op::DeleteRange(range, max) => Op::DeleteRange(*range, *max),
             Op::Load(pairs) => Op::Load(pairs.copy(alloc)?),
+            Op::Put(pairs) => Op::Put(pairs.copy(alloc)?),
             Op::Lock(lock) => Op::Lock(*lock),
             Op::Mark => Op::Mark,
             Op::Back => Op::Back,
         })
     }
 
-    /// Whether the pairs of a load rise strictly, and there is one. Any other operation is in order.
+    /// Whether the pairs of a load or a put rise strictly, and there is one. Any other operation is in order.
     pub fn is_orderly(&self) -> bool
         ensures { result ≡ is_orderly self.now }
     {
         match self {
-            Op::Load(pairs) => is_rising(pairs.as_slice()),
+            Op::Load(pairs) | Op::Put(pairs) => is_rising(pairs.as_slice()),
             _ => true,
         }
     }
 
-    /// Whether a scan's number of rows is from 1 to 1,000.
+    /// Whether a number of rows or of records to delete is from 1 to 1,000.
     pub fn is_bounded(&self) -> bool
         ensures { result ≡ is_bounded self.now }
     {
         match self {
-            Op::Scan(_, max) => 1 <= *max && *max <= MAX_ROWS,
+            Op::Scan(_, max) | Op::ScanBack(_, max) | Op::DeleteRange(_, max) => {
+                1 <= *max && *max <= MAX_ROWS
+            }
             _ => true,
         }
     }
 
-    pub fn is_load(&self) -> bool
-        ensures { result ≡ is_load self.now }
+    /// Whether the operation makes a run on some map: a load does, and a put of a key that is new.
+    pub fn may_make_run(&self) -> bool
+        ensures { result ≡ may_make_run self.now }
     {
-        matches!(self, Op::Load(_))
+        matches!(self, Op::Load(_) | Op::Put(_))
     }
 
     /// The refusal that is due before the lock is asked for: by whether the transaction is active, how many operations
@@ -168,7 +185,7 @@ impl Op {
         if !self.is_bounded() {
             return Some(Refusal::BadLimit);
         }
-        if self.is_load() && is_full {
+        if self.may_make_run() && is_full {
             return Some(Refusal::TooManyRuns);
         }
         None
@@ -181,11 +198,12 @@ impl Op {
     {
         match self {
             Op::Get(key) => Some(Lock::shared(Range::point(*key))),
-            Op::Scan(range, _) => Some(Lock::shared(*range)),
-            Op::Insert(key, _) | Op::Replace(key, _) | Op::Delete(key) => {
+            Op::Scan(range, _) | Op::ScanBack(range, _) => Some(Lock::shared(*range)),
+            Op::Insert(key, _) | Op::Replace(key, _) | Op::Set(key, _) | Op::Delete(key) => {
                 Some(Lock::exclusive(Range::point(*key)))
             }
-            Op::Load(pairs) => Some(Lock::exclusive(span(pairs.as_slice()))),
+            Op::DeleteRange(range, _) => Some(Lock::exclusive(*range)),
+            Op::Load(pairs) | Op::Put(pairs) => Some(Lock::exclusive(span(pairs.as_slice()))),
             Op::Lock(lock) => Some(*lock),
             Op::Mark | Op::Back => None,
         }
@@ -193,7 +211,7 @@ impl Op {
 }
 
 impl Step {
-    /// The same step. Only a load's pairs take memory.
+    /// The same step. Only the pairs of a load or a put take memory.
     pub fn copy(&self, alloc: Global) -> Result<Step, NoMemory>
         ensures same { IfOk result (λ step. step ≡ self.now) }
         ensures memory { OnErr result (step_has_pairs self.now ≡ true) }
@@ -223,6 +241,7 @@ impl Reply {
             Reply::Rows(rows) => Reply::Rows(rows.copy(alloc)?),
             Reply::Exists(key) => Reply::Exists(*key),
             Reply::Missing => Reply::Missing,
+            Reply::Deleted(n) => Reply::Deleted(*n),
             Reply::Committed(commit) => Reply::Committed(*commit),
             Reply::Aborted => Reply::Aborted,
             Reply::Moved(n, run) => Reply::Moved(*n, *run),

@@ -4,7 +4,7 @@ use Rattle.std.specs.List.{AllByRecursion}
 use Rattle.std.proofs.lemmas.Bool.{false≢true}
 use Rattle.am_record.specs.Plain.{PlainMap, Draft, fresh, draft_after, draft_back, left_on, left}
 use Rattle.am_record.specs.declared.step.Op.{Op}
-use Rattle.am_record.specs.declared.step.Op.TheVariants.{Get, Scan, Lock, Mark, Back}
+use Rattle.am_record.specs.declared.step.Op.TheVariants.{Get, Scan, ScanBack, Lock, Mark, Back}
 use Rattle.am_replica.specs.Told.{only_reads}
 
 -- a draft of that map, all of whose saved maps are it too
@@ -19,6 +19,7 @@ back_same m (s ∷ saved) d all same = (all.0, all.1)
 read_same : (m : PlainMap) (op : Op) (d : Draft) → only_reads op ≡ true → AreAll m d → AreAll m (draft_after op d)
 read_same m (Get k) d reads same = same
 read_same m (Scan range max) d reads same = same
+read_same m (ScanBack range max) d reads same = same
 read_same m (Lock lock) d reads same = same
 read_same m Mark d reads same = (same.0, (same.0, same.1))
 read_same m Back d reads same = back_same m d.saved d same.1 same

@@ -5,7 +5,7 @@ use Rattle.am_record.specs.contracts.step.Op as op
 use Rattle.am_replica.specs.contracts.block.Sum as sum
 use Rattle.am_record.specs.Plain.{PlainMap, answers}
 use Rattle.am_record.specs.declared.step.Op.{Op}
-use Rattle.am_record.specs.declared.step.Op.TheVariants.{Get, Scan, Lock, Mark, Back}
+use Rattle.am_record.specs.declared.step.Op.TheVariants.{Get, Scan, ScanBack, Lock, Mark, Back}
 use Rattle.am_record.specs.declared.step.Reply.{Reply}
 use Rattle.am_replica.specs.declared.block.Sum.{Sum}
 use Rattle.am_replica.specs.Bodies.{kept, replies, given}
@@ -61,6 +61,7 @@ pub record IsOneState (digest : List Reply → Sum) (t : TransactionState) (told
 abbrev pub only_reads : Op → Bool
 only_reads (Get k) = true
 only_reads (Scan range max) = true
+only_reads (ScanBack range max) = true
 only_reads (Lock lock) = true
 only_reads Mark = true
 only_reads Back = true

@@ -1,3 +1,5 @@
 mod Rows
 pub mod Actives
 mod Replays
+mod Trials
+mod Apart

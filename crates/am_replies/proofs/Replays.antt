@@ -36,6 +36,14 @@ next_taken : (own : List PlacedAnswer) (i position : ℕ) (op : Op) (reply : Rep
 next_taken own i position op reply n = take_more own i (position, (op, reply)) n.less ∙
     ap (λ p. take i own ++ p ∷ []) (sym n.is)
 
+-- what it leaves
+pub left_more : (own : List PlacedAnswer) (i position : ℕ) (op : Op) (reply : Reply) (d : Draft) →
+    IsNext own i position op reply → draft_after op (left_by_all (take i own) d) ≡ left_by_all (take (i + 1) own) d
+left_more own i position op reply d n =
+    sym (left_on_push (ops_of (answered_of (take i own))) op d)
+    ∙ ap (λ ops. left_on ops d) (sym (ops_push (take i own) position op reply))
+    ∙ ap (λ l. left_by_all l d) (sym (next_taken own i position op reply n))
+
 pub one_more : (own : List PlacedAnswer) (d now now' : Draft) (i position : ℕ) (op : Op) (reply told : Reply) →
     IsReplayedTo own d now i → IsNext own i position op reply → told ≡ answer op now → told ≡ reply →
     now' ≡ draft_after op now → IsReplayedTo own d now' (i + 1)
@@ -50,8 +58,7 @@ one_more own d now now' i position op reply told h n answered same moved =
     ∙ ap (λ ops. answers_on ops d) (sym (ops_push done position op reply)) in
     record {
       right = subst (λ l. AreAnsweredOn l d) (sym taken) right;
-      left = moved ∙ ap (draft_after op) h.left ∙ sym (left_on_push (ops_of (answered_of done)) op d) ∙
-          ap (λ ops. left_on ops d) (sym (ops_push done position op reply)) ∙ ap (λ l. left_by_all l d) (sym taken);
+      left = moved ∙ ap (draft_after op) h.left ∙ left_more own i position op reply d n;
     }
 
 pub wrong_here : (own : List PlacedAnswer) (d now : Draft) (i position : ℕ) (op : Op) (reply told : Reply) →

@@ -2,7 +2,6 @@
 
 ghost use Rattle.std.specs.Prelude.{◌≡◌, ◌↔◌, IsTrue};
 ghost use Rattle.am_record.specs.Plain.{is_key_of};
-ghost use Rattle.am_serial.specs.Trace.{runs_made};
 ghost use Rattle.am_serial.specs.Sound.{IsAnswerOf};
 
 use crate::replies::is_same_key;
@@ -14,17 +13,21 @@ pub fn is_answer(op: &Op, reply: &Reply) -> bool
 {
     match op {
         Op::Get(_) => matches!(reply, Reply::Found(_) | Reply::Absent),
-        Op::Scan(..) => matches!(reply, Reply::Rows(_)),
+        Op::Scan(..) | Op::ScanBack(..) => matches!(reply, Reply::Rows(_)),
         Op::Insert(key, _) => match reply {
             Reply::Exists(named) => is_same_key(*named, *key),
             reply => matches!(reply, Reply::Done),
         },
         Op::Replace(..) | Op::Delete(_) => matches!(reply, Reply::Done | Reply::Missing),
+        Op::DeleteRange(_, max) => match reply {
+            Reply::Deleted(n) => n <= max,
+            _ => false,
+        },
         Op::Load(pairs) => match reply {
             Reply::Exists(named) => has_key(pairs.as_slice(), *named),
             reply => matches!(reply, Reply::Done),
         },
-        Op::Lock(_) | Op::Mark => matches!(reply, Reply::Done),
+        Op::Set(..) | Op::Put(_) | Op::Lock(_) | Op::Mark => matches!(reply, Reply::Done),
         Op::Back => matches!(reply, Reply::Done | Reply::NoMark),
     }
 }
@@ -33,14 +36,4 @@ fn has_key(pairs: &[(Key, Value)], key: Key) -> bool
     ensures { result ≡ is_key_of pairs.now key }
 {
     pairs.iter().any(|pair| key == pair.0)
-}
-
-/// How many runs the operation made.
-pub fn runs_made(op: &Op, reply: &Reply) -> u32
-    ensures { result ≡ runs_made op.now reply.now }
-{
-    match (op, reply) {
-        (Op::Load(_), Reply::Done) => 1,
-        _ => 0,
-    }
 }

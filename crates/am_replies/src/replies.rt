@@ -19,6 +19,7 @@ pub(crate) fn is_same(a: &Reply, b: &Reply) -> bool
         (Reply::Rows(a), Reply::Rows(b)) => are_same_rows(a, b),
         (Reply::Exists(a), Reply::Exists(b)) => is_same_key(*a, *b),
         (Reply::Missing, Reply::Missing) => true,
+        (Reply::Deleted(a), Reply::Deleted(b)) => a == b,
         (Reply::Committed(a), Reply::Committed(b)) => a == b,
         (Reply::Aborted, Reply::Aborted) => true,
         (Reply::Moved(n, run), Reply::Moved(m, other)) => n == m && run == other,

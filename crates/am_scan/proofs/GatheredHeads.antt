@@ -1,5 +1,6 @@
 -- Heads gathered from partition to partition.
-use Rattle.std.proofs.Common.{◌≡◌, ℕ, ◌+◌, ◌^◌, ◌<◌, ◌≤◌, List, [], ◌∷◌, true, false, ◌&&◌, ◌==◌, Some, None, ◌⊎◌, inl}
+use Rattle.std.proofs.Common.{◌≡◌, ℕ, ◌+◌, ◌^◌, ◌<◌, ◌≤◌, List, [], ◌∷◌, Bool, true, false, ◌&&◌, ◌==◌, Some, None, ◌⊎◌}
+use Rattle.std.proofs.Common.{inl}
 use Rattle.std.proofs.Common.{inr, max, refl, sym, ap, ◌∙◌, subst, arith, ⊎_elim}
 use Rattle.std.proofs.Math.Nat.{max-le, max-eq_left}
 use Rattle.std.proofs.lemmas.Bool.{true≢false, both_ways, false_from_ne_true, cases_lt, cases_Bool}
@@ -16,8 +17,8 @@ use Rattle.std.specs.Option.{option_map}
 use Rattle.std.specs.List.{All, AllByRecursion, IsDistinct}
 use Rattle.std.specs.List.Sorted.{IsPermutation}
 use Rattle.std.specs.BinaryHeap.{IsHeap, KeepsHeap}
-use Rattle.am_record.specs.OrderedKey.{OrderedKey, key_cmp}
-use Rattle.am_record.specs.Interval.{Interval, key_le, within}
+use Rattle.am_record.specs.OrderedKey.{OrderedKey}
+use Rattle.am_record.specs.Interval.{Interval, within}
 use Rattle.am_record.specs.EntryOrder.{Place, place_of, place_cmp, place_cmp-equal}
 use Rattle.am_record.specs.declared.entry.Entry.{Entry}
 use Rattle.am_record.proofs.Lists.{AllByRecursion-map}
@@ -28,6 +29,7 @@ use Rattle.am_index.proofs.Edits.{one_place}
 use Rattle.am_index.proofs.Content.{none_live}
 use Rattle.am_parts.specs.MergedRanges.{HasNoneBefore}
 use Rattle.am_parts.specs.Partitions.{AreWellFormed, AreEmpty, AreEmptyFrom}
+use Rattle.am_scan.specs.Directions.{cmp_in, le_in}
 use Rattle.am_scan.specs.Heads.{Stand, head_cmp, IsHead, IsFirstHead, HasNoneLive}
 use Rattle.am_scan.specs.Cursors.{is_ahead_in, same_part, AreHeads, AreAllHeads}
 use Rattle.am_scan.proofs.HeadMoves.{turned}
@@ -86,157 +88,159 @@ pub max_one : (a b : ℕ) → (max a b ≡ a) ⊎ (max a b ≤ b)
 max_one a b = ⊎_elim (λ (less : a < b). inr (max-le (omega arith) (omega arith))) (λ (le : b ≤ a). inl (max-eq_left le))
     (cases_lt a b)
 
--- ---- gathering
+module _ (back : Bool) where
+  -- ---- gathering
 
--- of the partitions below this one the heads have all that is live in the range before them
-pub record AreHeadsBelow (es : List Entry) (range : Interval) (to : ℕ) (heads : List Stand) : Type 0 where
-  pub are_heads : AreHeads es range heads
-  pub heap : IsHeap head_cmp heads
-  pub below : All (λ (h : Stand). h.part < to) heads
-  pub before : (part : ℕ) (key : OrderedKey) (value : List ℕ) → part < to → IsLiveAt es part key value →
-      within range key ≡ true → is_ahead_in heads part key ≡ true
+  -- of the partitions below this one the heads have all that is live in the range before them
+  pub record AreHeadsBelow (es : List Entry) (range : Interval) (to : ℕ) (heads : List Stand) : Type 0 where
+    pub are_heads : AreHeads back es range heads
+    pub heap : IsHeap (head_cmp back) heads
+    pub below : All (λ (h : Stand). h.part < to) heads
+    pub before : (part : ℕ) (key : OrderedKey) (value : List ℕ) → part < to → IsLiveAt es part key value →
+        within range key ≡ true → is_ahead_in back heads part key ≡ true
 
-pub none_yet : (es : List Entry) (range : Interval) (heads : List Stand) → heads ≡ [] → IsHeap head_cmp heads →
-    AreHeadsBelow es range 0 heads
-unfolding IsDistinct
-none_yet es range heads none heap = record {
-  are_heads = record {
-    each = subst (All (IsHead es range)) (sym none) (All-nil (IsHead es range));
-    apart = subst (IsDistinct same_part) (sym none) tt;
-  };
-  heap = heap;
-  below = subst (All (λ (h : Stand). h.part < 0)) (sym none) (All-nil (λ (h : Stand). h.part < 0));
-  before = λ part key value less live inside. absurd (omega arith);
-}
+  pub none_yet : (es : List Entry) (range : Interval) (heads : List Stand) → heads ≡ [] → IsHeap (head_cmp back) heads →
+      AreHeadsBelow es range 0 heads
+  unfolding IsDistinct
+  none_yet es range heads none heap = record {
+    are_heads = record {
+      each = subst (All (IsHead back es range)) (sym none) (All-nil (IsHead back es range));
+      apart = subst (IsDistinct same_part) (sym none) tt;
+    };
+    heap = heap;
+    below = subst (All (λ (h : Stand). h.part < 0)) (sym none) (All-nil (λ (h : Stand). h.part < 0));
+    before = λ part key value less live inside. absurd (omega arith);
+  }
 
-lower_all : (to to' : ℕ) (heads : List Stand) → to ≤ to' → AllByRecursion (λ (h : Stand). h.part < to) heads →
-    AllByRecursion (λ (h : Stand). h.part < to') heads
-lower_all to to' [] le all = tt
-lower_all to to' (h ∷ heads) le all = let low : h.part < to = all.0 in
-    (omega (arith, low), lower_all to to' heads le all.1)
+  lower_all : (to to' : ℕ) (heads : List Stand) → to ≤ to' → AllByRecursion (λ (h : Stand). h.part < to) heads →
+      AllByRecursion (λ (h : Stand). h.part < to') heads
+  lower_all to to' [] le all = tt
+  lower_all to to' (h ∷ heads) le all = let low : h.part < to = all.0 in
+      (omega (arith, low), lower_all to to' heads le all.1)
 
-apart_from : (to : ℕ) (h : Stand) (heads : List Stand) → to ≤ h.part →
-    AllByRecursion (λ (g : Stand). g.part < to) heads → AllByRecursion (λ (g : Stand). same_part h g ≡ false)
-    heads
-apart_from to h [] le all = tt
-apart_from to h (g ∷ heads) le all = let low : g.part < to = all.0 in
-    (other_number h.part g.part (λ same. omega (arith, low, same)), apart_from to h heads le all.1)
+  apart_from : (to : ℕ) (h : Stand) (heads : List Stand) → to ≤ h.part →
+      AllByRecursion (λ (g : Stand). g.part < to) heads → AllByRecursion (λ (g : Stand). same_part h g ≡ false)
+      heads
+  apart_from to h [] le all = tt
+  apart_from to h (g ∷ heads) le all = let low : g.part < to = all.0 in
+      (other_number h.part g.part (λ same. omega (arith, low, same)), apart_from to h heads le all.1)
 
-module _ {es : List Entry} {range : Interval} {to : ℕ} {heads : List Stand} (gathered : AreHeadsBelow es range to heads)
-  where
-    module _ (at : ℕ) (from : to ≤ at) (empty : AreEmpty es to at) where
-      -- nothing of the range is live in the partitions that were skipped
-      skipped : (part : ℕ) (key : OrderedKey) (value : List ℕ) → to ≤ part → part < at → within range key ≡ true →
-          ¬ IsLiveAt es part key value
-      skipped part key value up below inside = none_live es part key (empty.none part key up below) value
+  module _ {es : List Entry} {range : Interval} {to : ℕ} {heads : List Stand}
+      (gathered : AreHeadsBelow es range to heads)
+    where
+      module _ (at : ℕ) (from : to ≤ at) (empty : AreEmpty es to at) where
+        -- nothing of the range is live in the partitions that were skipped
+        skipped : (part : ℕ) (key : OrderedKey) (value : List ℕ) → to ≤ part → part < at → within range key ≡ true →
+            ¬ IsLiveAt es part key value
+        skipped part key value up below inside = none_live es part key (empty.none part key up below) value
 
-      pub passes_part : HasNoneLive es range at → AreHeadsBelow es range (at + 1) heads
-      passes_part none = record {
+        pub passes_part : HasNoneLive es range at → AreHeadsBelow es range (at + 1) heads
+        passes_part none = record {
+          are_heads = gathered.are_heads;
+          heap = gathered.heap;
+          below = All-from_recursion (λ (h : Stand). h.part < at + 1) heads
+              (lower_all to (at + 1) heads (omega (arith, from))
+              (recursion_from_All (λ (h : Stand). h.part < to) heads gathered.below));
+          before = λ part key value less live inside.
+              ⊎_elim (λ old. gathered.before part key value old live inside)
+              (λ new. ⊎_elim (λ before. absurd (skipped part key value new before inside live))
+              (λ not_before. let same : part ≡ at = omega (arith, less, not_before) in
+              absurd (none.none key value inside (subst (λ p. IsLiveAt es p key value) same live)))
+              (cases_lt part at))
+              (cases_lt part to);
+        }
+
+        module _ (h : Stand) (begins : IsFirstHead back es range at h) {heads' : List Stand}
+            (moved : IsPermutation (h ∷ heads) heads') (keeps : KeepsHeap (head_cmp back) heads heads') where
+          below_h : AllByRecursion (λ (g : Stand). g.part < to) heads
+          below_h = recursion_from_All (λ (g : Stand). g.part < to) heads gathered.below
+
+          above_to : to ≤ h.part
+          above_to = let same = begins.in_part in omega (arith, from, same)
+
+          reached : (key : OrderedKey) (value : List ℕ) → within range key ≡ true → IsLiveAt es at key value →
+              le_in back h.key key ≡ true
+          reached key value inside live = by_order (cmp_in back h.key key) refl
+            where
+              by_order : (o : Ordering) → cmp_in back h.key key ≡ o → le_in back h.key key ≡ true
+              by_order Less e = ap is_le e
+              by_order Equal e = ap is_le e
+              by_order Greater e = absurd (begins.none_before key value inside (turned back h.key key e) live)
+
+          -- of the new list before it was put in order
+          ahead : (part : ℕ) (key : OrderedKey) (value : List ℕ) → part < at + 1 → IsLiveAt es part key value →
+              within range key ≡ true → is_ahead_in back (h ∷ heads) part key ≡ true
+          ahead part key value less live inside =
+              ⊎_elim (λ old. or_right (h.part == part && le_in back h.key key) (is_ahead_in back heads part key)
+              (gathered.before part key value old live inside))
+              (λ new. ⊎_elim (λ before. absurd (skipped part key value new before inside live))
+              (λ not_before.
+              let same : part ≡ at = omega (arith, less, not_before) in
+              or_left (h.part == part && le_in back h.key key) (is_ahead_in back heads part key)
+              (and_from (h.part == part) (le_in back h.key key)
+              (same_number h.part part (begins.in_part ∙ sym same))
+              (reached key value inside (subst (λ p. IsLiveAt es p key value) same live))))
+              (cases_lt part at))
+              (cases_lt part to)
+
+          pub takes_head : AreHeadsBelow es range (at + 1) heads'
+          takes_head = record {
+            are_heads = record {
+              each = All-permutation (IsHead back es range) (h ∷ heads) heads' moved
+                  (All-cons (IsHead back es range) h heads begins.head gathered.are_heads.each);
+              apart = IsDistinct-IsPermutation same_part same_either_way (h ∷ heads) heads' moved
+                  (IsDistinct-cons same_part h heads (apart_from to h heads above_to below_h) gathered.are_heads.apart);
+            };
+            heap = keeps gathered.heap;
+            below = All-permutation (λ (g : Stand). g.part < at + 1) (h ∷ heads) heads' moved
+                (All-from_recursion (λ (g : Stand). g.part < at + 1) (h ∷ heads)
+                (let same = begins.in_part in (
+                  omega (arith, same),
+                  lower_all to (at + 1) heads (omega (arith, from))
+                      below_h,
+                )));
+            before = λ part key value less live inside.
+                sym (list_any-IsPermutation (λ (g : Stand). g.part == part && le_in back g.key key) (h ∷ heads)
+                heads' moved) ∙ ahead part key value less live inside;
+          }
+
+      -- runs that have nothing in the range are passed
+      pub passes_runs : (run to' : ℕ) → 0 < to → to ≤ to' → (to' ≡ to) ⊎ (to' ≤ run) → HasNoneBefore es range run →
+          AreHeadsBelow es range to' heads
+      passes_runs run to' some up which none = record {
         are_heads = gathered.are_heads;
         heap = gathered.heap;
-        below = All-from_recursion (λ (h : Stand). h.part < at + 1) heads
-            (lower_all to (at + 1) heads (omega (arith, from))
-            (recursion_from_All (λ (h : Stand). h.part < to) heads gathered.below));
+        below = All-from_recursion (λ (h : Stand). h.part < to') heads
+            (lower_all to to' heads up (recursion_from_All (λ (h : Stand). h.part < to) heads gathered.below));
         before = λ part key value less live inside.
             ⊎_elim (λ old. gathered.before part key value old live inside)
-            (λ new. ⊎_elim (λ before. absurd (skipped part key value new before inside live))
-            (λ not_before. let same : part ≡ at = omega (arith, less, not_before) in
-            absurd (none.none key value inside (subst (λ p. IsLiveAt es p key value) same live)))
-            (cases_lt part at))
+            (λ new. ⊎_elim (λ (same : to' ≡ to). absurd (omega (arith, same, less, new)))
+            (λ (low : to' ≤ run). absurd (none_live es part key
+            (none_found es range run part key none (omega (arith, some, new)) (omega (arith, low, less)) inside) value
+            live)) which)
             (cases_lt part to);
       }
 
-      module _ (h : Stand) (begins : IsFirstHead es range at h) {heads' : List Stand}
-          (moved : IsPermutation (h ∷ heads) heads') (keeps : KeepsHeap head_cmp heads heads') where
-        below_h : AllByRecursion (λ (g : Stand). g.part < to) heads
-        below_h = recursion_from_All (λ (g : Stand). g.part < to) heads gathered.below
+      -- there is no entry left
+      pub has_all : AreEmptyFrom es to → AreAllHeads back es range heads
+      has_all empty = record {
+        are_heads = gathered.are_heads;
+        heap = gathered.heap;
+        before = λ part key value live inside.
+            ⊎_elim (λ old. gathered.before part key value old live inside)
+            (λ new. absurd (none_live es part key (empty.none part key new) value live)) (cases_lt part to);
+      }
 
-        above_to : to ≤ h.part
-        above_to = let same = begins.in_part in omega (arith, from, same)
-
-        reached : (key : OrderedKey) (value : List ℕ) → within range key ≡ true → IsLiveAt es at key value →
-            key_le h.key key ≡ true
-        reached key value inside live = by_order (key_cmp h.key key) refl
-          where
-            by_order : (o : Ordering) → key_cmp h.key key ≡ o → key_le h.key key ≡ true
-            by_order Less e = ap is_le e
-            by_order Equal e = ap is_le e
-            by_order Greater e = absurd (begins.none_before key value inside (turned h.key key e) live)
-
-        -- of the new list before it was put in order
-        ahead : (part : ℕ) (key : OrderedKey) (value : List ℕ) → part < at + 1 → IsLiveAt es part key value →
-            within range key ≡ true → is_ahead_in (h ∷ heads) part key ≡ true
-        ahead part key value less live inside =
-            ⊎_elim (λ old. or_right (h.part == part && key_le h.key key) (is_ahead_in heads part key)
-            (gathered.before part key value old live inside))
-            (λ new. ⊎_elim (λ before. absurd (skipped part key value new before inside live))
-            (λ not_before.
-            let same : part ≡ at = omega (arith, less, not_before) in
-            or_left (h.part == part && key_le h.key key) (is_ahead_in heads part key)
-            (and_from (h.part == part) (key_le h.key key)
-            (same_number h.part part (begins.in_part ∙ sym same))
-            (reached key value inside (subst (λ p. IsLiveAt es p key value) same live))))
-            (cases_lt part at))
-            (cases_lt part to)
-
-        pub takes_head : AreHeadsBelow es range (at + 1) heads'
-        takes_head = record {
-          are_heads = record {
-            each = All-permutation (IsHead es range) (h ∷ heads) heads' moved
-                (All-cons (IsHead es range) h heads begins.head gathered.are_heads.each);
-            apart = IsDistinct-IsPermutation same_part same_either_way (h ∷ heads) heads' moved
-                (IsDistinct-cons same_part h heads (apart_from to h heads above_to below_h) gathered.are_heads.apart);
-          };
-          heap = keeps gathered.heap;
-          below = All-permutation (λ (g : Stand). g.part < at + 1) (h ∷ heads) heads' moved
-              (All-from_recursion (λ (g : Stand). g.part < at + 1) (h ∷ heads)
-              (let same = begins.in_part in (
-                omega (arith, same),
-                lower_all to (at + 1) heads (omega (arith, from))
-                    below_h,
-              )));
-          before = λ part key value less live inside.
-              sym (list_any-IsPermutation (λ (g : Stand). g.part == part && key_le g.key key) (h ∷ heads)
-              heads' moved) ∙ ahead part key value less live inside;
-        }
-
-    -- runs that have nothing in the range are passed
-    pub passes_runs : (run to' : ℕ) → 0 < to → to ≤ to' → (to' ≡ to) ⊎ (to' ≤ run) → HasNoneBefore es range run →
-        AreHeadsBelow es range to' heads
-    passes_runs run to' some up which none = record {
-      are_heads = gathered.are_heads;
-      heap = gathered.heap;
-      below = All-from_recursion (λ (h : Stand). h.part < to') heads
-          (lower_all to to' heads up (recursion_from_All (λ (h : Stand). h.part < to) heads gathered.below));
-      before = λ part key value less live inside.
-          ⊎_elim (λ old. gathered.before part key value old live inside)
-          (λ new. ⊎_elim (λ (same : to' ≡ to). absurd (omega (arith, same, less, new)))
-          (λ (low : to' ≤ run). absurd (none_live es part key
-          (none_found es range run part key none (omega (arith, some, new)) (omega (arith, low, less)) inside) value
-          live)) which)
-          (cases_lt part to);
-    }
-
-    -- there is no entry left
-    pub has_all : AreEmptyFrom es to → AreAllHeads es range heads
-    has_all empty = record {
-      are_heads = gathered.are_heads;
-      heap = gathered.heap;
-      before = λ part key value live inside.
-          ⊎_elim (λ old. gathered.before part key value old live inside)
-          (λ new. absurd (none_live es part key (empty.none part key new) value live)) (cases_lt part to);
-    }
-
-    -- or no number of a partition
-    pub has_all_numbers : AreWellFormed es → ¬ (to < 2 ^ 32) → AreAllHeads es range heads
-    has_all_numbers sound past = record {
-      are_heads = gathered.are_heads;
-      heap = gathered.heap;
-      before = λ part key value live inside.
-          ⊎_elim (λ old. gathered.before part key value old live inside)
-          (λ new. let fits = live_fits es part key (value, false) sound.fits live.there in
-          absurd (past (omega (arith, new, fits)))) (cases_lt part to);
-    }
+      -- or no number of a partition
+      pub has_all_numbers : AreWellFormed es → ¬ (to < 2 ^ 32) → AreAllHeads back es range heads
+      has_all_numbers sound past = record {
+        are_heads = gathered.are_heads;
+        heap = gathered.heap;
+        before = λ part key value live inside.
+            ⊎_elim (λ old. gathered.before part key value old live inside)
+            (λ new. let fits = live_fits es part key (value, false) sound.fits live.there in
+            absurd (past (omega (arith, new, fits)))) (cases_lt part to);
+      }
 
 -- ---- one partition alone
 

@@ -1,6 +1,7 @@
+mod Directions
 mod RisingRows
 mod HeadMoves
 mod GatheredHeads
-mod LeastHeads
-mod LeastRecords
+mod FirstHeads
+mod FirstRecords
 mod TakenRows

@@ -4,12 +4,13 @@ use Rattle.std.specs.Coded.{Coded, code_by, coded×, coded_ℕ, coded_bool, code
 use Rattle.std.specs.declared.cmp.Ordering.{Ordering}
 use Rattle.std.specs.declared.cmp.Ordering.TheVariants.{Less}
 use Rattle.std.specs.Cmp.{IsTotalOrder, on_total, back_total}
-use Rattle.am_record.specs.OrderedKey.{OrderedKey, key_cmp, key_cmp-total, key_code, key_least}
+use Rattle.am_record.specs.OrderedKey.{OrderedKey, key_code, key_least}
 use Rattle.am_record.specs.Interval.{Interval, within}
 use Rattle.am_record.specs.Plain.{Records}
 use Rattle.am_record.specs.Records.{records_code}
 use Rattle.am_record.specs.declared.entry.Entry.{Entry}
 use Rattle.am_index.specs.Content.{rows_in, IsLiveAt}
+use Rattle.am_scan.specs.Directions.{cmp_in, cmp_in-total, as_read, rest_of}
 
 -- where a head stands: in a partition, at the record, with the others read behind it, and whether those are all
 pub record Stand : Type 0 where
@@ -39,49 +40,49 @@ stand_at part rows passed is_all = record {
   is_all = is_all;
 }
 
--- by key, the least one the greatest
-abbrev pub head_cmp : Stand → Stand → Ordering
-head_cmp g h = key_cmp h.key g.key
+-- by key, the one that is read first the greatest
+abbrev pub head_cmp : Bool → Stand → Stand → Ordering
+head_cmp back g h = cmp_in back h.key g.key
 
-pub head_cmp-total : IsTotalOrder head_cmp
-head_cmp-total = back_total (on_total (λ (h : Stand). h.key) key_cmp-total)
+pub head_cmp-total : (back : Bool) → IsTotalOrder (head_cmp back)
+head_cmp-total back = back_total (on_total (λ (h : Stand). h.key) (cmp_in-total back))
 
--- the rows of its partition from its key up to the other one begin with it and what was read behind it, and are no more
+-- the rows of its partition from its key to the range's end begin with it and what was read behind it, and are no more
 -- where that is all
-pub record HasReadOn (es : List Entry) (hi : OrderedKey) (h : Stand) : Type 0 where
+pub record HasReadOn (back : Bool) (es : List Entry) (range : Interval) (h : Stand) : Type 0 where
   pub further : Records
-  pub follows : rows_in es h.part (record { lo = h.key; hi = hi }) ≡ (h.key, h.value) ∷ (h.read ++ further)
+  pub follows : as_read back (rows_in es h.part (rest_of back range h.key)) ≡ (h.key, h.value) ∷ (h.read ++ further)
   pub ended : IsTrue h.is_all → further ≡ []
 
 -- and something was read behind it, unless that is all
-pub record HasReadSome (es : List Entry) (hi : OrderedKey) (h : Stand) : Type 0 where
-  pub reads : HasReadOn es hi h
+pub record HasReadSome (back : Bool) (es : List Entry) (range : Interval) (h : Stand) : Type 0 where
+  pub reads : HasReadOn back es range h
   pub at_end : h.read ≡ [] → IsTrue h.is_all
 
 -- the head stands at a live entry in the range
-pub record IsHead (es : List Entry) (range : Interval) (h : Stand) : Type 0 where
+pub record IsHead (back : Bool) (es : List Entry) (range : Interval) (h : Stand) : Type 0 where
   pub live : IsLiveAt es h.part h.key h.value
   pub inside : within range h.key ≡ true
-  pub reads : HasReadOn es range.hi h
+  pub reads : HasReadOn back es range h
 
--- it stands at the partition's first one
-pub record IsFirstHead (es : List Entry) (range : Interval) (part : ℕ) (h : Stand) : Type 0 where
-  pub head : IsHead es range h
+-- it stands at the one of the partition that is read first
+pub record IsFirstHead (back : Bool) (es : List Entry) (range : Interval) (part : ℕ) (h : Stand) : Type 0 where
+  pub head : IsHead back es range h
   pub in_part : h.part ≡ part
-  pub none_before : (key : OrderedKey) (value : List ℕ) → within range key ≡ true → key_cmp key h.key ≡ Less →
+  pub none_before : (key : OrderedKey) (value : List ℕ) → within range key ≡ true → cmp_in back key h.key ≡ Less →
       ¬ IsLiveAt es part key value
 
--- the new head stands at the first one behind the old
-pub record IsNextHead (es : List Entry) (range : Interval) (old new : Stand) : Type 0 where
-  pub head : IsHead es range new
+-- the new head stands at the one that is read next behind the old
+pub record IsNextHead (back : Bool) (es : List Entry) (range : Interval) (old new : Stand) : Type 0 where
+  pub head : IsHead back es range new
   pub in_part : new.part ≡ old.part
-  pub above : key_cmp old.key new.key ≡ Less
-  pub none_between : (key : OrderedKey) (value : List ℕ) → key_cmp old.key key ≡ Less →
-      key_cmp key new.key ≡ Less → ¬ IsLiveAt es old.part key value
+  pub behind : cmp_in back old.key new.key ≡ Less
+  pub none_between : (key : OrderedKey) (value : List ℕ) → cmp_in back old.key key ≡ Less →
+      cmp_in back key new.key ≡ Less → ¬ IsLiveAt es old.part key value
 
 -- there is none behind it
-pub record HasNoNext (es : List Entry) (range : Interval) (h : Stand) : Type 0 where
-  pub none : (key : OrderedKey) (value : List ℕ) → key_cmp h.key key ≡ Less → within range key ≡ true →
+pub record HasNoNext (back : Bool) (es : List Entry) (range : Interval) (h : Stand) : Type 0 where
+  pub none : (key : OrderedKey) (value : List ℕ) → cmp_in back h.key key ≡ Less → within range key ≡ true →
       ¬ IsLiveAt es h.part key value
 
 -- no key of the range is live in the partition

@@ -4,9 +4,11 @@ ghost use Rattle.std.specs.Prelude.{◌≡◌, ◌≤◌, ◌++◌, IfOk, true, 
 ghost use Rattle.am_record.specs.Interval.{within};
 ghost use Rattle.am_record.specs.Plain.{rows_where};
 ghost use Rattle.am_index.specs.Content.{content};
+ghost use Rattle.am_scan.specs.Directions.{as_read};
 
+use crate::direction::{Direction, Forward};
 use crate::head::Head;
-use crate::heads::{heads_of, keep_least, pop_least};
+use crate::heads::{heads_of, keep_first, pop_first};
 use am_index::{PartIndex, content_follows, rows_follow};
 use am_parts::Parts;
 use am_record::{Key, NoMemory, Range, Value};
@@ -19,32 +21,32 @@ const ROWS_AT_ONCE: usize = 16;
 
 /// A place in the records of a range, seen as the list of the records still to come. It merges the
 /// partitions as runs are merged in an external sort: each has a head at its next record, and the
-/// least of them has the next record of all.
-pub struct Cursor<'a, I: PartIndex + Drop> {
+/// first of them has the next record of all.
+pub struct Cursor<'a, I: PartIndex + Drop, D: Direction = Forward> {
     parts: &'a Parts<I>,
     range: Range,
-    // The least head, if a partition has a record left. It stands beside the heap, so that it moves
-    // on in its place as long as it is the least.
-    least: Option<Head>,
+    // The head that is read first, if a partition has a record left. It stands beside the heap, so that it moves
+    // on in its place as long as it is the first.
+    first: Option<Head<D>>,
     // Those of the other partitions that have a record left.
-    others: BinaryHeap<Head>,
+    others: BinaryHeap<Head<D>>,
 }
 
 // By hand: a crate above then need not prove once more how a cursor is dropped.
-impl<'a, I: PartIndex + Drop> Drop for Cursor<'a, I> {
+impl<'a, I: PartIndex + Drop, D: Direction> Drop for Cursor<'a, I, D> {
     fn drop(self) {
         let Cursor {
             parts: _,
             range: _,
-            least,
+            first,
             others,
         } = self;
-        drop(least);
+        drop(first);
         drop(others);
     }
 }
 
-impl<'a, I: PartIndex + Drop> Model for Cursor<'a, I> {
+impl<'a, I: PartIndex + Drop, D: Direction> Model for Cursor<'a, I, D> {
     ghost use Rattle.std.specs.List.{cons_option};
     ghost use Rattle.std.specs.BinaryHeap.{heap_items};
     ghost use Rattle.am_record.specs.Records.{Records, records_code};
@@ -56,9 +58,10 @@ impl<'a, I: PartIndex + Drop> Model for Cursor<'a, I> {
 
     ghost use Rattle.am_scan.specs.Cursors.{rows_ahead, IsCursor};
 
-    ghost view = { λ c. rows_ahead (cons_option c.least (heap_items c.others)) c.range (content c.parts.now.entries) };
+    ghost view = { λ c. rows_ahead D.is_back (cons_option c.first (heap_items c.others)) c.range
+        (content c.parts.now.entries) };
 
-    ghost invariant = { λ c. IsCursor c.parts.now.entries c.range c.least (heap_items c.others) };
+    ghost invariant = { λ c. IsCursor D.is_back c.parts.now.entries c.range c.first (heap_items c.others) };
 }
 
 impl<'a, I: PartIndex + Drop> Cursor<'a, I> {
@@ -71,8 +74,10 @@ impl<'a, I: PartIndex + Drop> Cursor<'a, I> {
     {
         Cursor::open_for(alloc, parts, range, ROWS_AT_ONCE)
     }
+}
 
-    /// The same, where each partition is asked for so many rows at once.
+impl<'a, I: PartIndex + Drop, D: Direction> Cursor<'a, I, D> {
+    /// The same in any direction, where each partition is asked for so many rows at once.
     ///
     /// # Errors
     /// NoMemory, where memory was refused.
@@ -81,17 +86,18 @@ impl<'a, I: PartIndex + Drop> Cursor<'a, I> {
         parts: &'a Parts<I>,
         range: Range,
         rows_at_once: usize,
-    ) -> Result<Cursor<'a, I>, NoMemory>
+    ) -> Result<Cursor<'a, I, D>, NoMemory>
         requires { 2 ≤ rows_at_once }
-        ensures { IfOk result (λ rows. rows ≡ rows_where (within range) (content parts.now.entries)) }
+        ensures { IfOk result (λ rows. rows ≡
+            as_read D.is_back (rows_where (within range) (content parts.now.entries))) }
     {
         content_follows();
-        let mut others = heads_of(alloc, parts, range, rows_at_once)?;
-        let least = pop_least(&mut others);
+        let mut others = heads_of::<D, I>(alloc, parts, range, rows_at_once)?;
+        let first = pop_first(&mut others);
         Ok(Cursor {
             parts,
             range,
-            least,
+            first,
             others,
         })
     }
@@ -102,14 +108,14 @@ impl<'a, I: PartIndex + Drop> Cursor<'a, I> {
         ensures rest { self.new ≡ drop 1 self.old }
     {
         content_follows();
-        let Some(head) = &mut self.least else {
+        let Some(head) = &mut self.first else {
             return None;
         };
         let record = Some(head.record());
         if head.move_on(self.parts, self.range) {
-            keep_least(head, &mut self.others);
+            keep_first(head, &mut self.others);
         } else {
-            self.least = pop_least(&mut self.others);
+            self.first = pop_first(&mut self.others);
         }
         record
     }
@@ -127,14 +133,14 @@ impl<'a, I: PartIndex + Drop> Cursor<'a, I> {
     {
         content_follows();
         rows_follow();
-        let Some(head) = &self.least else {
+        let Some(head) = &self.first else {
             return Ok(false);
         };
         if !self.others.is_empty() {
             return Ok(false);
         }
         let (part, rest) = head.rest(self.range);
-        self.parts.copy_rows(part, rest, max, rows)?;
+        D::copy_rows(self.parts, part, rest, max, rows)?;
         Ok(true)
     }
 }

@@ -1,4 +1,4 @@
-//! The heads with which a cursor begins, and the least one of several.
+//! The heads with which a cursor begins, and the one of several that is read first.
 
 ghost use Rattle.std.specs.Prelude.{◌≤◌, ◌∷◌, IfOk, Some};
 ghost use Rattle.std.specs.List.{cons_option};
@@ -6,8 +6,9 @@ ghost use Rattle.std.specs.List.Sorted.{IsPermutation};
 ghost use Rattle.std.specs.BinaryHeap.{heap_items, IsHeap};
 ghost use Rattle.am_parts.specs.Partitions.{AreWellFormed};
 ghost use Rattle.am_scan.specs.Heads.{head_cmp};
-ghost use Rattle.am_scan.specs.Cursors.{AreAllHeads, IsLeastBeside};
+ghost use Rattle.am_scan.specs.Cursors.{AreAllHeads, IsFirstBeside};
 
+use crate::direction::Direction;
 use crate::head::Head;
 use am_index::PartIndex;
 use am_parts::Parts;
@@ -16,25 +17,26 @@ use std::alloc::Global;
 use std::collections::BinaryHeap;
 use std::mem;
 
-/// The heads of all partitions that have a record in the range, each at its first one. They read so many rows at once.
+/// The heads of all partitions that have a record in the range, each at the one that is read first. They read so
+/// many rows at once.
 ///
 /// # Errors
 /// NoMemory, where memory was refused.
-pub(crate) fn heads_of<I: PartIndex + Drop>(
+pub(crate) fn heads_of<D: Direction, I: PartIndex + Drop>(
     alloc: Global,
     parts: &Parts<I>,
     range: Range,
     room: usize,
-) -> Result<BinaryHeap<Head>, NoMemory>
+) -> Result<BinaryHeap<Head<D>>, NoMemory>
     requires { 2 ≤ room }
-    ensures heads { IfOk result (λ heads. AreAllHeads parts.now.entries range (heap_items heads)) }
+    ensures heads { IfOk result (λ heads. AreAllHeads D.is_back parts.now.entries range (heap_items heads)) }
     ensures sound { AreWellFormed parts.now.entries }
 {
     let first_run = parts.first_run(range);
     let mut heads = BinaryHeap::new(alloc);
     let mut from = 0;
     while let Some(part) = parts.next_part(from) {
-        let first = Head::first(alloc, parts, range, part, room)?;
+        let first = Head::<D>::first(alloc, parts, range, part, room)?;
         if let Some(head) = first {
             heads.push(head)?;
         }
@@ -47,20 +49,20 @@ pub(crate) fn heads_of<I: PartIndex + Drop>(
     Ok(heads)
 }
 
-/// Takes the least head out of the heap, if there is one.
-pub(crate) fn pop_least(others: &mut BinaryHeap<Head>) -> Option<Head>
-    requires { IsHeap head_cmp (heap_items others.old) }
+/// Takes the head that is read first out of the heap, if there is one.
+pub(crate) fn pop_first<D: Direction>(others: &mut BinaryHeap<Head<D>>) -> Option<Head<D>>
+    requires { IsHeap (head_cmp D.is_back) (heap_items others.old) }
     ensures same { IsPermutation (heap_items others.old) (cons_option result (heap_items others.new)) }
-    ensures least { IsLeastBeside result (heap_items others.new) }
+    ensures first { IsFirstBeside D.is_back result (heap_items others.new) }
 {
     others.pop()
 }
 
-/// Lets a head change places with the least of the others, where that one is less. Takes no memory.
-pub(crate) fn keep_least(head: &mut Head, others: &mut BinaryHeap<Head>)
-    requires { IsHeap head_cmp (heap_items others.old) }
+/// Lets a head change places with the first of the others, where that one is read before it. Takes no memory.
+pub(crate) fn keep_first<D: Direction>(head: &mut Head<D>, others: &mut BinaryHeap<Head<D>>)
+    requires { IsHeap (head_cmp D.is_back) (heap_items others.old) }
     ensures same { IsPermutation (head.old ∷ heap_items others.old) (head.new ∷ heap_items others.new) }
-    ensures least { IsLeastBeside (Some head.new) (heap_items others.new) }
+    ensures first { IsFirstBeside D.is_back (Some head.new) (heap_items others.new) }
 {
     let Some(other) = others.peek() else {
         return;
@@ -68,8 +70,8 @@ pub(crate) fn keep_least(head: &mut Head, others: &mut BinaryHeap<Head>)
     if *other <= *head {
         return;
     }
-    let Some(mut least) = others.peek_mut() else {
+    let Some(mut first) = others.peek_mut() else {
         unreachable!()
     };
-    mem::swap(&mut *least, head);
+    mem::swap(&mut *first, head);
 }

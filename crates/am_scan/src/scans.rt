@@ -1,11 +1,14 @@
-//! A scan: the first records of a range, over all partitions of an index.
+//! A scan: the first records of a range, or the last ones from the highest key down, over all partitions of an index.
 
 ghost use Rattle.std.specs.Prelude.{◌≡◌, ◌<◌, ◌≤◌, take, IfOk, IfSome};
-ghost use Rattle.am_record.specs.Plain.{scan_rows};
+ghost use Rattle.am_record.specs.Interval.{within};
+ghost use Rattle.am_record.specs.Plain.{rows_where, scan_rows, scan_back_rows};
 ghost use Rattle.am_index.specs.Content.{content, LivesInOne};
 ghost use Rattle.am_parts.specs.Partitions.{AreWellFormed};
+ghost use Rattle.am_scan.specs.Directions.{as_read};
 
 use crate::Cursor;
+use crate::direction::{Back, Direction, Forward};
 use am_index::{PartIndex, rows_follow};
 use am_parts::Parts;
 use am_record::{Key, NoMemory, Range, Value};
@@ -34,12 +37,42 @@ pub fn scan<I: PartIndex + Drop>(
 ) -> Result<Vec<(Key, Value)>, NoMemory>
     ensures { IfOk result (λ rows. rows.items ≡ scan_rows range max (content parts.now.entries)) }
 {
+    read_rows::<Forward, I>(alloc, parts, range, max)
+}
+
+/// The records of the range from the highest key down, the first `max` of them, whichever partitions they stand
+/// in. Ghosts are no records.
+///
+/// # Errors
+/// NoMemory, where memory was refused.
+#[inline(never)]
+pub fn scan_back<I: PartIndex + Drop>(
+    alloc: Global,
+    parts: &Parts<I>,
+    range: Range,
+    max: u64,
+) -> Result<Vec<(Key, Value)>, NoMemory>
+    ensures { IfOk result (λ rows. rows.items ≡ scan_back_rows range max (content parts.now.entries)) }
+{
+    read_rows::<Back, I>(alloc, parts, range, max)
+}
+
+// The first `max` records of the range, as they are read in a direction.
+fn read_rows<D: Direction, I: PartIndex + Drop>(
+    alloc: Global,
+    parts: &Parts<I>,
+    range: Range,
+    max: u64,
+) -> Result<Vec<(Key, Value)>, NoMemory>
+    ensures { IfOk result (λ rows. rows.items ≡
+        take max (as_read D.is_back (rows_where (within range) (content parts.now.entries)))) }
+{
     rows_follow();
     let Some(part) = only_part(parts, range) else {
-        return merge_rows(alloc, parts, range, max);
+        return merge_rows::<D, I>(alloc, parts, range, max);
     };
     let mut rows = Vec::new(alloc);
-    parts.copy_rows(part, range, max, &mut rows)?;
+    D::copy_rows(parts, part, range, max, &mut rows)?;
     Ok(rows)
 }
 
@@ -58,23 +91,24 @@ fn only_part<I: PartIndex + Drop>(parts: &Parts<I>, range: Range) -> Option<u32>
 }
 
 // The same by a cursor, until one partition is left.
-fn merge_rows<I: PartIndex + Drop>(
+fn merge_rows<D: Direction, I: PartIndex + Drop>(
     alloc: Global,
     parts: &Parts<I>,
     range: Range,
     max: u64,
 ) -> Result<Vec<(Key, Value)>, NoMemory>
-    ensures { IfOk result (λ rows. rows.items ≡ scan_rows range max (content parts.now.entries)) }
+    ensures { IfOk result (λ rows. rows.items ≡
+        take max (as_read D.is_back (rows_where (within range) (content parts.now.entries)))) }
 {
     let rows_at_once = rows_at_once(parts, range, max);
-    let mut cursor = Cursor::open_for(alloc, parts, range, rows_at_once)?;
+    let mut cursor = Cursor::<I, D>::open_for(alloc, parts, range, rows_at_once)?;
     take_rows(alloc, &mut cursor, max)
 }
 
 // Takes the first records that are still to come, as many as are asked for.
-fn take_rows<I: PartIndex + Drop>(
+fn take_rows<D: Direction, I: PartIndex + Drop>(
     alloc: Global,
-    cursor: &mut Cursor<'_, I>,
+    cursor: &mut Cursor<'_, I, D>,
     max: u64,
 ) -> Result<Vec<(Key, Value)>, NoMemory>
     ensures { IfOk result (λ rows. rows.items ≡ take max cursor.old) }

@@ -2,8 +2,8 @@
 use Rattle.std.proofs.Common.{◌≡◌, List, [], ◌∷◌, Bool, true, false, refl, ◌∙◌}
 use Rattle.am_record.specs.OrderedKey.{OrderedKey}
 use Rattle.am_record.specs.declared.step.Op.{Op}
-use Rattle.am_record.specs.declared.step.Op.TheVariants.{Get, Scan, Insert, Replace, Delete, Load, Lock as TakeLock}
-use Rattle.am_record.specs.declared.step.Op.TheVariants.{Mark, Back}
+use Rattle.am_record.specs.declared.step.Op.TheVariants.{Get, Scan, ScanBack, Insert, Replace, Set, Delete}
+use Rattle.am_record.specs.declared.step.Op.TheVariants.{DeleteRange, Load, Put, Lock as TakeLock, Mark, Back}
 use Rattle.am_record.specs.Plain.{PlainMap, Draft, fresh, went_back, draft_back, answer, draft_after, is_orderly}
 use Rattle.am_serial.specs.Agreement.{Agree, AllAgree, Alike, AllHave, Has}
 use Rattle.am_serial.proofs.Maps.{reads, writes, Within, agree_within, answer_local, after_local, after_frame}
@@ -29,10 +29,15 @@ pub same_answer : {S : OrderedKey → Bool} (op : Op) (d e : Draft) → is_order
     Alike S d e → answer op d ≡ answer op e
 same_answer (Get k) d e o w a = answer_local (Get k) d.map e.map o (agree_within w a.map)
 same_answer (Scan range max) d e o w a = answer_local (Scan range max) d.map e.map o (agree_within w a.map)
+same_answer (ScanBack range max) d e o w a = answer_local (ScanBack range max) d.map e.map o (agree_within w a.map)
 same_answer (Insert k v) d e o w a = answer_local (Insert k v) d.map e.map o (agree_within w a.map)
 same_answer (Replace k v) d e o w a = answer_local (Replace k v) d.map e.map o (agree_within w a.map)
+same_answer (Set k v) d e o w a = refl
 same_answer (Delete k) d e o w a = answer_local (Delete k) d.map e.map o (agree_within w a.map)
+same_answer (DeleteRange range max) d e o w a =
+    answer_local (DeleteRange range max) d.map e.map o (agree_within w a.map)
 same_answer (Load pairs) d e o w a = answer_local (Load pairs) d.map e.map o (agree_within w a.map)
+same_answer (Put pairs) d e o w a = refl
 same_answer (TakeLock lock) d e o w a = refl
 same_answer Mark d e o w a = refl
 same_answer {S} Back d e o w a = went_back_alike S d.saved e.saved a.saved
@@ -45,10 +50,20 @@ still_alike (Scan range max) d e o w a = record {
   map = after_local (Scan range max) d.map e.map o w a.map;
   saved = a.saved;
 }
+still_alike (ScanBack range max) d e o w a = record {
+  map = after_local (ScanBack range max) d.map e.map o w a.map;
+  saved = a.saved;
+}
 still_alike (Insert k v) d e o w a = record { map = after_local (Insert k v) d.map e.map o w a.map; saved = a.saved }
 still_alike (Replace k v) d e o w a = record { map = after_local (Replace k v) d.map e.map o w a.map; saved = a.saved }
+still_alike (Set k v) d e o w a = record { map = after_local (Set k v) d.map e.map o w a.map; saved = a.saved }
 still_alike (Delete k) d e o w a = record { map = after_local (Delete k) d.map e.map o w a.map; saved = a.saved }
+still_alike (DeleteRange range max) d e o w a = record {
+  map = after_local (DeleteRange range max) d.map e.map o w a.map;
+  saved = a.saved;
+}
 still_alike (Load pairs) d e o w a = record { map = after_local (Load pairs) d.map e.map o w a.map; saved = a.saved }
+still_alike (Put pairs) d e o w a = record { map = after_local (Put pairs) d.map e.map o w a.map; saved = a.saved }
 still_alike (TakeLock lock) d e o w a = record { map = a.map; saved = a.saved }
 still_alike Mark d e o w a = record { map = a.map; saved = (a.map, a.saved) }
 still_alike {S} Back d e o w a = back_alike S d.saved e.saved d e a.saved a
@@ -66,6 +81,7 @@ pub still_has : (op : Op) (d : Draft) (q : OrderedKey) (m : PlainMap) → is_ord
     Has q m d → Has q m (draft_after op d)
 still_has (Get k) d q m o w h = h
 still_has (Scan range max) d q m o w h = h
+still_has (ScanBack range max) d q m o w h = h
 still_has (TakeLock lock) d q m o w h = h
 still_has Mark d q m o w h = record { map = h.map; saved = (h.map, h.saved) }
 still_has Back d q m o w h = back_has q m d.saved d h.saved h

@@ -25,7 +25,7 @@ use Rattle.am_serial.proofs.Views.{View, view_of, view_of-push, push, among, act
 use Rattle.am_serial.proofs.Views.{state_of, is_open-with_body, body_in-with_body, among_push, among_push_old}
 use Rattle.am_serial.proofs.Views.{among_push_last, among_push_none, same_bodies}
 use Rattle.am_serial.proofs.Serial.{IsRisingFrom, IsRisingFrom-push, by_contradiction, none}
-use Rattle.am_serial.proofs.Runs.{same_state, begun_active, ended_active, extended-with_body, view-state_of}
+use Rattle.am_serial.proofs.Runs.{made_by, same_state, begun_active, ended_active, extended-with_body, view-state_of}
 use Rattle.am_serial.proofs.Sound.{active_early, blocker_is_least, least_is_blocker}
 
 -- what holds of the numbers of a formed trace
@@ -111,7 +111,7 @@ state_pushed v (Begins t) num new =
     let fresh = num.fresh t above in
     same_state _ _ _ _ _ _ _ _ _ _ (length-append v.begun (t ∷ [])) refl refl refl (begun_active v t fresh.1 fresh.2)
 state_pushed v (Answers t op reply) num on =
-    same_state _ _ _ _ _ _ _ _ _ _ refl refl refl
+    same_state _ _ _ _ _ _ _ _ _ _ refl refl (made_by v t op reply on)
     (ap (λ bodies. left_by_bodies bodies empty) (same_bodies v t (op, reply) v.committers (not_committed v num t on)))
     (sym (extended-with_body t (op, reply) v.body (active_in v)))
 state_pushed v (Commits t) num on =

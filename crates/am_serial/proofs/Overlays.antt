@@ -10,14 +10,16 @@ use Rattle.am_record.specs.OrderedKey.{OrderedKey, key_cmp-total, key_cmp-exact}
 use Rattle.am_record.specs.declared.lock.Lock.{Lock}
 use Rattle.am_record.specs.declared.step.Op.{Op}
 use Rattle.am_record.specs.declared.step.Op.TheVariants.{Back}
+use Rattle.am_record.specs.declared.step.Reply.{Reply}
 use Rattle.am_record.specs.Plain.{PlainMap, Draft, fresh, answer, draft_after, map_answer, map_after, left_on, left}
 use Rattle.am_record.specs.Plain.{is_orderly}
 use Rattle.am_record.specs.Asks.{lock_of, with_asked, clashes, locks_of, has_key, holds, owns}
 use Rattle.am_record.proofs.Bodies.{left_on_push}
 use Rattle.am_serial.specs.Laws.{is_back}
-use Rattle.am_serial.specs.Trace.{Answered, left_by_bodies, ops_of}
+use Rattle.am_serial.specs.Trace.{Answered, left_by_bodies, ops_of, runs_made}
 use Rattle.am_serial.specs.Agreement.{Agree}
-use Rattle.am_serial.proofs.Maps.{Within, agree_refl, answer_local, after_local, after_frame, reads, writes}
+use Rattle.am_serial.proofs.Maps.{Within, agree_refl, answer_local, after_local, after_frame, runs_made_local, reads}
+use Rattle.am_serial.proofs.Maps.{writes}
 use Rattle.am_serial.proofs.Bodies.{AllOrderly, Apart, owns_holds, writes_reads, scope_of, scope_within, left_local}
 use Rattle.am_serial.proofs.Bodies.{left_frame, asked_only, not_owned}
 use Rattle.am_serial.proofs.Views.{among, among_filter, among_filter_from}
@@ -156,6 +158,12 @@ module _ (f : ℕ → List Answered) (ts : List ℕ) (m : PlainMap) (t : ℕ) (o
   -- the answer on the transaction's own view is the one on all that stands
   pub granted_answer : map_answer op (left_by_bodies (map f ts) m) ≡ map_answer op (left (ops_of (f t)) m)
   granted_answer = answer_local op (left_by_bodies (map f ts) m) (left (ops_of (f t)) m) orderly
+      (record { at = λ q h. granted_agree.at q (asked_within.at q h) })
+
+  -- and so are the runs that it makes
+  pub granted_made : (reply : Reply) → runs_made (left_by_bodies (map f ts) m) op reply ≡ runs_made
+      (left (ops_of (f t)) m) op reply
+  granted_made reply = runs_made_local op reply (left_by_bodies (map f ts) m) (left (ops_of (f t)) m) orderly
       (record { at = λ q h. granted_agree.at q (asked_within.at q h) })
 
   module _ (f' : ℕ → List Answered) (crowd' : Crowd f' ts) (here : ops_of (f' t) ≡ ops_of (f t) ++ op ∷ [])

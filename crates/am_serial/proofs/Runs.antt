@@ -1,5 +1,6 @@
 -- The machine's state is that of its trace, and what it may do keeps the invariant.
-use Rattle.std.proofs.Common.{◌≡◌, ◌≢◌, ℕ, ◌<◌, List, [], ◌∷◌, ◌++◌, length, map, Bool, true, false, cond, refl, sym}
+use Rattle.std.proofs.Common.{◌≡◌, ◌≢◌, ℕ, ◌+◌, ◌<◌, List, [], ◌∷◌, ◌++◌, length, map, Bool, true, false, cond, refl}
+use Rattle.std.proofs.Common.{sym}
 use Rattle.std.proofs.Common.{ap, ◌∙◌, subst, ⊎_elim, ◌⊎◌, Option, Some, None, arith, append_assoc, length-append}
 use Rattle.std.specs.Prelude.{◌&&◌, ◌||◌, ◌==◌, not, filter, MatchOption}
 use Rattle.std.specs.FinMap.{contains_key, get, empty}
@@ -27,12 +28,12 @@ use Rattle.am_record.proofs.ByNumber.{of_number-told, with_changed-map, without_
 use Rattle.am_record.proofs.Owners as owners
 use Rattle.am_record.specs.Events.{Event}
 use Rattle.am_serial.specs.Trace.{Trace, Answered, Effect, Begins, Answers, Commits, Aborts, Nothing, effect}
-use Rattle.am_serial.specs.Trace.{effect_of_do, effects, ops_of, left_by_bodies}
-use Rattle.am_record.specs.Refusals.{is_load, or_else, lock_refusal}
+use Rattle.am_serial.specs.Trace.{effect_of_do, effects, ops_of, left_by_bodies, runs_made}
+use Rattle.am_record.specs.Refusals.{may_make_run, or_else, lock_refusal}
 use Rattle.am_serial.specs.Machine.{State, Transaction, start, is_open, locks_in, view, blocker, due_early, due_lock}
 use Rattle.am_serial.specs.Machine.{is_full, due, May, extended, without_transaction, next, Runs, after_run}
 use Rattle.am_serial.proofs.Views.{View, view_of, view_of-push, push, among, active_in, committed_in, with_body}
-use Rattle.am_serial.proofs.Views.{state_of, is_open-with_body, body_in-with_body}
+use Rattle.am_serial.proofs.Views.{seen_in, state_of, is_open-with_body, body_in-with_body}
 use Rattle.am_serial.proofs.Serial.{Inv, MayAnswer, MayBe, push_inv, none, none_inv, same_committed_bodies}
 use Rattle.am_serial.proofs.Serial.{commits_committed}
 
@@ -115,6 +116,11 @@ pub view-state_of : (v : View) (t : ℕ) → among (active_in v) t ≡ true →
 view-state_of v t on = ap (λ (done : List Answered). left_on (ops_of done) (fresh (committed_in v)))
     (body_in-with_body v.body (active_in v) t on)
 
+-- how many runs an operation makes on what the transaction sees
+pub made_by : (v : View) (t : ℕ) (op : Op) (reply : Reply) → among (active_in v) t ≡ true →
+    v.runs + runs_made (seen_in v t) op reply ≡ v.runs + runs_made (view (state_of v) t).map op reply
+made_by v t op reply on = ap (λ (d : Draft). v.runs + runs_made d.map op reply) (sym (view-state_of v t on))
+
 -- the machine's state after an event is that of the trace with the event
 pub state_of-push : (v : View) (e : Effect) → Inv v → MayBe v e → state_of (push v e) ≡ next (state_of v) e
 state_of-push v (Begins t) inv may =
@@ -122,7 +128,7 @@ state_of-push v (Begins t) inv may =
     let fresh = inv.fresh t above in
     same_state _ _ _ _ _ _ _ _ _ _ (length-append v.begun (t ∷ [])) refl refl refl (begun_active v t fresh.1 fresh.2)
 state_of-push v (Answers t op reply) inv may =
-    same_state _ _ _ _ _ _ _ _ _ _ refl refl refl
+    same_state _ _ _ _ _ _ _ _ _ _ refl refl (made_by v t op reply may.active)
     (ap (λ bodies. left_by_bodies bodies empty) (same_committed_bodies v inv t op reply may.active))
     (sym (extended-with_body t (op, reply) v.body (active_in v)))
 state_of-push v (Commits t) inv may =
@@ -209,7 +215,7 @@ may_answer v t op none_due =
 -- whether a further run may be made refuses no operation that is granted
 pub none_without : (full : Bool) (s : State) (t : ℕ) (op : Op) → due full s t op ≡ None → due false s t op ≡ None
 none_without false s t op h = h
-none_without true s t op h = at _ _ _ _ (is_load op) (due_lock s t op) h
+none_without true s t op h = at _ _ _ _ (may_make_run op) (due_lock s t op) h
   where
     at : (a b c d load : Bool) (later : Option Refusal) → or_else (cond a (Some NoSuchTx) (cond b (Some TooManyOps)
         (cond c (Some NotRising) (cond d (Some BadLimit) (cond (load && true) (Some TooManyRuns) None))))) later ≡

@@ -5,14 +5,15 @@ use Rattle.std.specs.Prelude.{◌&&◌, ◌==◌, ◌↔◌, not, filter, MatchO
 use Rattle.std.specs.FinMap.{get, contains_key, entries, empty}
 use Rattle.std.proofs.lemmas.Bool.{both_ways, and_from, and_parts, or_cases, or_left, or_right, not-false}
 use Rattle.std.proofs.lemmas.Bool.{not_from_false, cond-true, eqb-true, eq-eqb, ne_eqb}
-use Rattle.std.proofs.lemmas.List.{map-append}
+use Rattle.std.proofs.lemmas.List.{map-append, length-take}
 use Rattle.am_record.specs.OrderedKey.{OrderedKey}
+use Rattle.am_record.specs.Interval.{within}
 use Rattle.am_record.specs.declared.step.Refusal.{Refusal}
 use Rattle.am_record.specs.declared.step.Refusal.TheVariants.{NoSuchTx, Busy, TooManyLocks, TooManyOps, TooManyRuns}
 use Rattle.am_record.specs.declared.step.Refusal.TheVariants.{NotRising, BadLimit, NoMemory}
 use Rattle.am_record.specs.declared.lock.Lock.{Lock}
 use Rattle.am_record.specs.declared.step.Op.{Op}
-use Rattle.am_record.specs.declared.step.Op.TheVariants.{Get, Insert, Replace, Delete, Load, Back}
+use Rattle.am_record.specs.declared.step.Op.TheVariants.{Get, Insert, Replace, Delete, DeleteRange, Load, Back}
 use Rattle.am_record.specs.declared.step.Step.{Step}
 use Rattle.am_record.specs.declared.step.Step.TheVariants.{Begin, Do}
 use Rattle.am_record.specs.declared.step.Reply.{Reply}
@@ -72,6 +73,9 @@ answer_form (Replace k v) d = elim (contains_key d.map k) as (λ b. IsAnswerOf (
     [ true ↦ tt | false ↦ tt ]
 answer_form (Delete k) d = elim (contains_key d.map k) as (λ b. IsAnswerOf (Delete k) (cond b Done Missing))
     [ true ↦ tt | false ↦ tt ]
+answer_form (DeleteRange range max) d =
+    let few = length-take max (rows_where (within range) d.map) in
+    omega (few, arith)
 answer_form (Load pairs) d = taken_form pairs (rows_where (is_key_of pairs) d.map) (filtered_keys pairs (entries d.map))
 answer_form Back d = at d.saved
   where

@@ -13,6 +13,7 @@ use Rattle.am_record.specs.OrderedKey.{OrderedKey}
 use Rattle.am_record.specs.Asks.{lock_of, with_asked, locks_of, holds, owns}
 use Rattle.am_serial.specs.Agreement.{Agree, Alike, Has}
 use Rattle.am_serial.specs.Trace.{Trace, Answered, Effect, Answers, Commits, effects, left_by_bodies, ops_of}
+use Rattle.am_serial.specs.Trace.{runs_made}
 use Rattle.am_serial.specs.Machine.{Transaction, start, Runs, after_run, is_open, view, due, without_transaction, next}
 use Rattle.am_serial.specs.Machine.{overlay_in, owns_in, State, body_in, holds_in}
 use Rattle.am_serial.specs.Laws.{is_back, GrantedOnOverlay, BackRestores, CommitKeepsOverlay, AbortRestores}
@@ -22,7 +23,8 @@ use Rattle.am_serial.proofs.Maps.{agree_refl}
 use Rattle.am_serial.proofs.Views.{View, view_of, push, among, active_in, committed_in, with_body, state_of}
 use Rattle.am_serial.proofs.Views.{is_open-with_body, body_in-with_body, active_parts, active_from, among_push_none}
 use Rattle.am_serial.proofs.Serial.{Inv, MayAnswer, push_inv, same_committed_bodies, commits_committed}
-use Rattle.am_serial.proofs.Overlays.{Crowd, locks_by, answer_map, granted_answer, granted_overlay, back_overlay}
+use Rattle.am_serial.proofs.Overlays.{Crowd, locks_by, answer_map, granted_answer, granted_made, granted_overlay}
+use Rattle.am_serial.proofs.Overlays.{back_overlay}
 use Rattle.am_serial.proofs.Overlays.{commits_overlay, aborts_overlay, AreDistinct-filter, crowd_held, crowd_frame}
 use Rattle.am_serial.proofs.Runs.{from_start, without_transaction-with_body, view-state_of, may_answer, state_of-push}
 
@@ -105,6 +107,10 @@ module _ (v : View) (inv : Inv v) (t : ℕ) (op : Op) (none_due : due false (sta
             ∙ granted_overlay v.body ts m t op plain crowd may.active may.orderly may.free f' crowd' here locks_here
             there
             ∙ ap (map_after op) (sym (overlay_by v.body ts m));
+        made = λ r.
+            ap (λ (d : Draft). runs_made d.map op r) is_seen
+            ∙ sym (granted_made v.body ts m t op plain crowd may.active may.orderly may.free r)
+            ∙ ap (λ n. runs_made n op r) (sym (overlay_by v.body ts m));
       }
 
 back_law : (v : View) (inv : Inv v) (t : ℕ) → due false (state_of v) t Back ≡ None → BackRestores (state_of v) t

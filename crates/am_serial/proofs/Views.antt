@@ -1,6 +1,6 @@
 -- What of a trace the machine's state depends on, and how one more event changes it.
 use Rattle.std.proofs.Common.{◌≡◌, ◌≢◌, ℕ, ◌+◌, List, [], ◌∷◌, ◌++◌, length, map, Bool, true, false, cond, refl, sym}
-use Rattle.std.proofs.Common.{ap, ◌∙◌, subst, ⊎_elim, inl, inr, ◌⊎◌, Some, None, arith}
+use Rattle.std.proofs.Common.{ap, ◌∙◌, subst, ⊎_elim, inl, inr, ◌⊎◌, Some, None, arith, append_assoc}
 use Rattle.std.specs.Prelude.{◌==◌, not, filter}
 use Rattle.std.specs.List.{cons_option}
 use Rattle.std.specs.FinMap.{empty}
@@ -9,12 +9,13 @@ use Rattle.std.proofs.lemmas.Bool.{ne_eqb, not-true, not_from_false, eqb-true}
 use Rattle.std.proofs.lemmas.List.{append-nil}
 use Rattle.std.proofs.lemmas.List.Folds.{list_any-append}
 use Rattle.std.proofs.lemmas.List.Elements.{filter_map-append}
-use Rattle.am_record.specs.Plain.{PlainMap}
+use Rattle.am_record.specs.Plain.{PlainMap, left}
 use Rattle.am_record.specs.ByNumber.{has_number}
 use Rattle.am_record.proofs.ByNumber.{has_number-map, has_number-push_other, has_number-push_own, map-there}
 use Rattle.am_record.proofs.ByNumber.{of_number-known, of_number-map}
 use Rattle.am_serial.specs.Trace.{Answered, Effect, Begins, Answers, Commits, Aborts, Nothing, begins, ends, commits}
-use Rattle.am_serial.specs.Trace.{answered_to, begun, ended, committers, body, runs, makes, runs_made, left_by_bodies}
+use Rattle.am_serial.specs.Trace.{answered_to, begun, ended, committers, body, ops_of, runs_made, left_by_bodies, makes}
+use Rattle.am_serial.specs.Trace.{runs_after, runs}
 use Rattle.am_serial.specs.Machine.{State, Transaction, is_open, body_in}
 
 pub record View : Type 0 where
@@ -27,15 +28,27 @@ pub record View : Type 0 where
 abbrev pub view_of : List Effect → View
 view_of es = record { begun = begun es; ended = ended es; committers = committers es; runs = runs es; body = body es }
 
+-- the map that is committed, and the one that a transaction sees
+abbrev pub committed_in : View → PlainMap
+committed_in v = left_by_bodies (map v.body v.committers) empty
+
+abbrev pub seen_in : View → ℕ → PlainMap
+seen_in v t = left (ops_of (v.body t)) (committed_in v)
+
 abbrev pub push : View → Effect → View
 push v (Begins t) = record v { begun = v.begun ++ t ∷ [] }
 push v (Answers t op reply) = record v {
-  runs = v.runs + runs_made op reply;
+  runs = v.runs + runs_made (seen_in v t) op reply;
   body = λ u. cond (t == u) (v.body u ++ (op, reply) ∷ []) (v.body u);
 }
 push v (Commits t) = record v { ended = v.ended ++ t ∷ []; committers = v.committers ++ t ∷ [] }
 push v (Aborts t) = record v { ended = v.ended ++ t ∷ [] }
 push v Nothing = v
+
+-- how many runs the event makes
+abbrev made_in : View → Effect → ℕ
+made_in v (Answers t op reply) = runs_made (seen_in v t) op reply
+made_in v _ = 0
 
 -- every part with what the event adds to it
 abbrev with_all : View → Effect → View
@@ -43,7 +56,7 @@ with_all v e = record {
   begun = v.begun ++ cons_option (begins e) [];
   ended = v.ended ++ cons_option (ends e) [];
   committers = v.committers ++ cons_option (commits e) [];
-  runs = v.runs + makes e;
+  runs = v.runs + made_in v e;
   body = λ u. v.body u ++ cons_option (answered_to u e) [];
 }
 
@@ -64,16 +77,31 @@ same_view b b' d d' c c' r r' f f' pb pd pc pr pf i = record {
   body = λ u. pf u i;
 }
 
-runs-push : (es : List Effect) (e : Effect) → runs (es ++ e ∷ []) ≡ runs es + makes e
-runs-push [] e = refl
-runs-push (x ∷ es) e = let ih = runs-push es e in omega arith
+runs_after-push : (past es : List Effect) (e : Effect) →
+    runs_after past (es ++ e ∷ []) ≡ runs_after past es + makes (past ++ es) e
+runs_after-push past [] e =
+    let here : makes (past ++ []) e ≡ makes past e = ap (λ es. makes es e) (append-nil past) in
+    omega arith
+runs_after-push past (x ∷ es) e =
+    let rest = runs_after-push (past ++ x ∷ []) es e in
+    let moved : makes ((past ++ x ∷ []) ++ es) e ≡ makes (past ++ x ∷ es) e =
+    ap (λ es. makes es e) (append_assoc past (x ∷ []) es) in
+    omega arith
+
+-- an event at the end
+pub runs-push : (es : List Effect) (e : Effect) → runs (es ++ e ∷ []) ≡ runs es + makes es e
+runs-push es e = runs_after-push [] es e
+
+makes_in : (es : List Effect) (e : Effect) → makes es e ≡ made_in (view_of es) e
+makes_in es (Answers t op reply) = refl
+makes_in es _ = refl
 
 view_of-with_all : (es : List Effect) (e : Effect) → view_of (es ++ e ∷ []) ≡ with_all (view_of es) e
 view_of-with_all es e = same_view _ _ _ _ _ _ _ _ _ _
     (filter_map-append begins es (e ∷ []))
     (filter_map-append ends es (e ∷ []))
     (filter_map-append commits es (e ∷ []))
-    (runs-push es e)
+    (runs-push es e ∙ ap (λ n. runs es + n) (makes_in es e))
     (λ u. filter_map-append (answered_to u) es (e ∷ []))
 
 one_body : (b : Bool) (xs : List Answered) (x : Answered) → xs ++ cons_option (cond b (Some x) None) [] ≡ cond b
@@ -156,9 +184,6 @@ same_bodies v t0 a ts off = map-there (λ u. u) (λ t. cond (t0 == t) (v.body t 
 
 abbrev pub active_in : View → List ℕ
 active_in v = filter (λ t. not (among v.ended t)) v.begun
-
-abbrev pub committed_in : View → PlainMap
-committed_in v = left_by_bodies (map v.body v.committers) empty
 
 pub active_parts : (v : View) (t : ℕ) → among (active_in v) t ≡ true → (among v.begun t ≡ true) ×
     (among v.ended t ≡ false)

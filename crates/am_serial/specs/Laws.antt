@@ -4,8 +4,9 @@ use Rattle.std.specs.FinMap.{get}
 use Rattle.am_record.specs.OrderedKey.{OrderedKey}
 use Rattle.am_record.specs.declared.step.Op.{Op}
 use Rattle.am_record.specs.declared.step.Op.TheVariants.{Back}
+use Rattle.am_record.specs.declared.step.Reply.{Reply}
 use Rattle.am_record.specs.Plain.{map_answer, map_after, answer, draft_after}
-use Rattle.am_serial.specs.Trace.{Trace, effects, Answers, Commits, Aborts, committed, active, overlay}
+use Rattle.am_serial.specs.Trace.{Trace, runs_made, effects, Answers, Commits, Aborts, committed, active, overlay}
 use Rattle.am_serial.specs.Machine.{State, Transaction, is_open, view, due, next, overlay_in, holds_in, owns_in}
 use Rattle.am_serial.specs.Agreement.{Agree, Alike, Has}
 
@@ -13,10 +14,12 @@ abbrev pub is_back : Op → Bool
 is_back Back = true
 is_back op = false
 
--- a granted operation is answered by the overlay as by the transaction's own view, and does the same to it
+-- a granted operation is answered by the overlay as by the transaction's own view, and does the same to it; it makes as
+-- many runs by either
 pub record GrantedOnOverlay (s : State) (t : ℕ) (op : Op) : Type 0 where
   pub answered : answer op (view s t) ≡ map_answer op (overlay_in s)
   pub changed : overlay_in (next s (Answers t op (answer op (view s t)))) ≡ map_after op (overlay_in s)
+  pub made : (reply : Reply) → runs_made (view s t).map op reply ≡ runs_made (overlay_in s) op reply
 
 -- Back gives each key that the transaction owns the value of the map gone back to, and leaves the others
 abbrev pub BackRestores : State → ℕ → Type 0

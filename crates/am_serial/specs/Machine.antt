@@ -129,7 +129,7 @@ without_transaction t txs = without_number (λ (x : Transaction). x.0) t txs
 abbrev pub next : State → Effect → State
 next s (Begins t) = record s { begun = s.begun + 1; active = s.active ++ (t, []) ∷ [] }
 next s (Answers t op reply) = record s {
-  runs = s.runs + runs_made op reply;
+  runs = s.runs + runs_made (view s t).map op reply;
   active = with_changed (λ (x : Transaction). x.0) (extended (op, reply)) t s.active;
 }
 next s (Commits t) = record s {

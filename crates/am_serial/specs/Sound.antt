@@ -4,11 +4,13 @@ use Rattle.std.specs.Prelude.{MatchBool}
 use Rattle.am_record.specs.declared.step.Refusal.{Refusal}
 use Rattle.am_record.specs.declared.step.Refusal.TheVariants.{Busy, TooManyLocks, NoMemory}
 use Rattle.am_record.specs.declared.step.Op.{Op}
-use Rattle.am_record.specs.declared.step.Op.TheVariants.{Get, Scan, Insert, Replace, Delete, Load, Lock, Mark, Back}
+use Rattle.am_record.specs.declared.step.Op.TheVariants.{Get, Scan, ScanBack, Insert, Replace, Set, Delete}
+use Rattle.am_record.specs.declared.step.Op.TheVariants.{DeleteRange, Load, Put, Lock, Mark, Back}
 use Rattle.am_record.specs.declared.step.Step.{Step}
 use Rattle.am_record.specs.declared.step.Step.TheVariants.{Do}
 use Rattle.am_record.specs.declared.step.Reply.{Reply}
-use Rattle.am_record.specs.declared.step.Reply.TheVariants.{Done, Found, Absent, Rows, Exists, Missing, NoMark, Refused}
+use Rattle.am_record.specs.declared.step.Reply.TheVariants.{Done, Found, Absent, Rows, Exists, Missing, Deleted, NoMark}
+use Rattle.am_record.specs.declared.step.Reply.TheVariants.{Refused}
 use Rattle.am_record.specs.Plain.{is_key_of}
 use Rattle.am_record.specs.Asks.{clashes, lock_of}
 use Rattle.am_serial.specs.Trace.{Trace, Effect, effect, is_active, held_by, IsSerial, IsSteady, AtEachMoment}
@@ -36,14 +38,18 @@ abbrev pub IsAnswerOf : Op → Reply → Type 0
 IsAnswerOf (Get k) (Found v) = Unit {0}
 IsAnswerOf (Get k) Absent = Unit {0}
 IsAnswerOf (Scan range max) (Rows rows) = Unit {0}
+IsAnswerOf (ScanBack range max) (Rows rows) = Unit {0}
 IsAnswerOf (Insert k v) (Exists k') = k' ≡ k
 IsAnswerOf (Insert k v) Done = Unit {0}
 IsAnswerOf (Replace k v) Done = Unit {0}
 IsAnswerOf (Replace k v) Missing = Unit {0}
+IsAnswerOf (Set k v) Done = Unit {0}
 IsAnswerOf (Delete k) Done = Unit {0}
 IsAnswerOf (Delete k) Missing = Unit {0}
+IsAnswerOf (DeleteRange range max) (Deleted n) = n ≤ max
 IsAnswerOf (Load pairs) (Exists k) = is_key_of pairs k ≡ true
 IsAnswerOf (Load pairs) Done = Unit {0}
+IsAnswerOf (Put pairs) Done = Unit {0}
 IsAnswerOf (Lock lock) Done = Unit {0}
 IsAnswerOf Mark Done = Unit {0}
 IsAnswerOf Back Done = Unit {0}

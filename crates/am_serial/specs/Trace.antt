@@ -5,12 +5,12 @@ use Rattle.std.specs.List.{filter_map}
 use Rattle.std.specs.FinMap.{empty}
 use Rattle.am_record.specs.declared.lock.Lock.{Lock}
 use Rattle.am_record.specs.declared.step.Op.{Op}
-use Rattle.am_record.specs.declared.step.Op.TheVariants.{Load}
+use Rattle.am_record.specs.declared.step.Op.TheVariants.{Load, Put}
 use Rattle.am_record.specs.declared.step.Step.{Step}
 use Rattle.am_record.specs.declared.step.Step.TheVariants.{Begin, Do, Commit, Abort}
 use Rattle.am_record.specs.declared.step.Reply.{Reply}
 use Rattle.am_record.specs.declared.step.Reply.TheVariants.{Done, Begun, Committed, Aborted, Refused}
-use Rattle.am_record.specs.Plain.{PlainMap, answers, left}
+use Rattle.am_record.specs.Plain.{PlainMap, has_new, answers, left}
 use Rattle.am_record.specs.Events.{Event}
 use Rattle.am_record.specs.ByNumber.{has_number}
 use Rattle.am_record.specs.Asks.{locks_of}
@@ -59,14 +59,11 @@ abbrev pub answered_to : ℕ → Effect → Option Answered
 answered_to t (Answers u op reply) = cond (u == t) (Some (op, reply)) None
 answered_to t _ = None
 
--- how many runs the operation made
-abbrev pub runs_made : Op → Reply → ℕ
-runs_made (Load pairs) Done = 1
-runs_made _ _ = 0
-
-abbrev pub makes : Effect → ℕ
-makes (Answers t op reply) = runs_made op reply
-makes _ = 0
+-- how many runs the operation made that found this map: a put makes one where a key is new
+abbrev pub runs_made : PlainMap → Op → Reply → ℕ
+runs_made m (Load pairs) Done = 1
+runs_made m (Put pairs) Done = cond (has_new pairs m) 1 0
+runs_made m _ _ = 0
 
 abbrev pub effects : Trace → List Effect
 effects trace = map (λ (e : Event). effect e.0 e.1) trace
@@ -80,10 +77,6 @@ ended es = filter_map ends es
 
 abbrev pub committers : List Effect → List ℕ
 committers es = filter_map commits es
-
-abbrev pub runs : List Effect → ℕ
-runs [] = 0
-runs (e ∷ es) = runs es + makes e
 
 -- begun, and neither committed nor aborted
 abbrev pub active : List Effect → List ℕ
@@ -112,6 +105,22 @@ committed_bodies es = map (body es) (committers es)
 
 abbrev pub committed : List Effect → PlainMap
 committed es = left_by_bodies (committed_bodies es) empty
+
+-- what a transaction sees: its body alone on the committed map
+abbrev pub seen_by : List Effect → ℕ → PlainMap
+seen_by es t = left (ops_of (body es t)) (committed es)
+
+-- how many runs an event made after these; how many they all made
+abbrev pub makes : List Effect → Effect → ℕ
+makes past (Answers t op reply) = runs_made (seen_by past t) op reply
+makes past _ = 0
+
+abbrev pub runs_after : List Effect → List Effect → ℕ
+runs_after past [] = 0
+runs_after past (e ∷ es) = makes past e + runs_after (past ++ e ∷ []) es
+
+abbrev pub runs : List Effect → ℕ
+runs es = runs_after [] es
 
 -- the replies recorded in the body are those that it gets alone from the map
 abbrev pub IsAnsweredAlone : List Answered → PlainMap → Type 0

@@ -52,8 +52,7 @@ pub(crate) fn make_ready<
         Ok(opened) => opened,
         Err(fault) => return Err(tell(rt, listening, &fault)),
     };
-    let version = version_of(mode_of(listening));
-    let writer = match begin_trace(rt, listening, outbox, version) {
+    let writer = match begin_trace(rt, listening, outbox) {
         Ok(writer) => writer,
         // The file said what fails.
         Err(fault) if outbox.is_failed() => return Err(Ok(ExitCode::from(fault.status()))),
@@ -72,6 +71,7 @@ pub(crate) struct Served {
     commits: u64,
     accepted_all: bool,
     is_cut: bool,
+    needs_three: bool,
 }
 
 // Says which port it is, or which socket where there is no port. Where that can't be said nothing is left of the trace
@@ -237,6 +237,7 @@ fn serve_kept<
             commits: run.commits,
             accepted_all: run.accepted_all,
             is_cut: run.pieces.is_cut(),
+            needs_three: run.pieces.needs_three(),
         }),
         Err(_) => Err(ListenFault::NoMemory),
     }
@@ -244,7 +245,7 @@ fn serve_kept<
 
 /// Stores the trace, unless some of its text could not be written, and tells what was done. The program's status.
 #[inline(never)]
-pub(crate) fn close<R: Files + Print + Eprint>(
+pub(crate) fn close<R: Files<File = File> + Print + Eprint>(
     rt: &R,
     listening: &Listening<'_>,
     file: Option<&TraceFile>,
@@ -260,7 +261,8 @@ pub(crate) fn close<R: Files + Print + Eprint>(
             return tell(rt, listening, &fault);
         }
     };
-    let stored = store_trace(rt, file, served.is_cut || is_failed);
+    let (is_cut, version) = (served.is_cut || is_failed, version_of(mode_of(listening)));
+    let stored = store_trace(rt, file, is_cut, version, served.needs_three);
     if stays || stored.is_ok() {
         println!(rt; "CLOSED {} {}", served.events, served.commits)?;
     }

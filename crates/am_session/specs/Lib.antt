@@ -3,3 +3,4 @@ pub mod Waits
 pub mod OneAnswer
 pub mod ServedSessions
 pub mod Stops
+pub mod Unsent

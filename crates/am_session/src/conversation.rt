@@ -26,9 +26,9 @@ fn await_ticket<W: Wait + Clock, B: Backend>(rt: &W, backend: &B, step: &Step) {
     }
 }
 
-// A load's records are copied before others' steps are kept out.
+// The records of a load or a put are copied before others' steps are kept out.
 fn let_go_before<H: Drop>(held: &mut Option<H>, step: &Step) {
-    if let Step::Do(_, Op::Load(_)) = step {
+    if let Step::Do(_, Op::Load(_) | Op::Put(_)) = step {
         *held = None;
     }
 }

@@ -1,6 +1,7 @@
 //! Lines that came together, whose steps are taken with nobody else's between them.
 
-ghost use Rattle.std.specs.Prelude.{◌≡◌, None, false};
+ghost use Rattle.std.specs.Prelude.{◌≡◌, ◌+◌, ◌<◌, None, IfSome, false};
+ghost use Rattle.am_session.specs.Unsent.{unsent_with};
 
 use am_dialogue::Response;
 use am_record::Reply;
@@ -24,7 +25,9 @@ pub(crate) struct Together<H: Drop> {
 
 impl<H: Drop> Together<H> {
     pub(crate) fn new() -> Together<H>
-        ensures { result.held ≡ None }
+        ensures held { result.held ≡ None }
+        ensures lines { result.lines ≡ 0 }
+        ensures unsent { result.unsent ≡ 0 }
     {
         Together {
             held: None,
@@ -35,7 +38,9 @@ impl<H: Drop> Together<H> {
 
     // Others may take their steps.
     fn let_go(&mut self)
-        ensures { self.new.held ≡ None }
+        ensures held { self.new.held ≡ None }
+        ensures lines { self.new.lines ≡ 0 }
+        ensures unsent { self.new.unsent ≡ self.old.unsent }
     {
         self.held = None;
         self.lines = 0;
@@ -43,7 +48,10 @@ impl<H: Drop> Together<H> {
 
     /// A line has this response. Lets go, unless the session goes on with a further one at once, and few were answered.
     pub(crate) fn note(&mut self, response: &Response, goes_on: bool)
-        ensures { goes_on ≡ false → self.new.held ≡ None }
+        ensures free { goes_on ≡ false → self.new.held ≡ None }
+        ensures few { IfSome self.new.held (λ held. (self.new.lines ≡ self.old.lines + 1) × (self.new.lines < 16)) }
+        ensures short { IfSome self.new.held (λ held. self.new.unsent < 64) }
+        ensures unsent { self.new.unsent ≡ unsent_with response.now self.old.unsent }
     {
         self.lines = self.lines.saturating_add(1);
         self.unsent = match response {
@@ -58,7 +66,9 @@ impl<H: Drop> Together<H> {
 
     /// All answers were sent on.
     pub(crate) fn send(&mut self)
-        ensures { self.new.held ≡ self.old.held }
+        ensures held { self.new.held ≡ self.old.held }
+        ensures lines { self.new.lines ≡ self.old.lines }
+        ensures unsent { self.new.unsent ≡ 0 }
     {
         self.unsent = 0;
     }

@@ -160,10 +160,10 @@ impl<'a, L: LatchName> Backend for SessionSeat<'a, L> {
 
     // A commit is published before anybody hears of it.
     fn call<W: Wait>(&mut self, rt: &W, held: &mut Option<Locked<'a, L>>, step: Step) -> Reply {
-        let is_load = matches!(&step, Step::Do(_, Op::Load(_)));
+        let may_make_run = matches!(&step, Step::Do(_, Op::Load(_) | Op::Put(_)));
         hold_few(&mut self.seat, self.holds_few);
         let reply = self.seat.call_on(rt, self.latch, held, step);
-        if is_load && reply == Reply::Done {
+        if may_make_run && reply == Reply::Done {
             self.pacer.add_work();
         }
         publish(self.counters, &mut self.counter_seat, &self.seat, &reply);

@@ -17,20 +17,24 @@ use Rattle.am_effect.specs.MergeAnswers.{wishes_left, worked_off}
 use Rattle.am_effect.specs.Places.{look, put, reslotted, with_slot}
 use Rattle.am_effect.specs.Store.{AskedAt, EachAsked, Follows, IsAsked, MayReply, Store, after_step, all_loaded_into}
 use Rattle.am_effect.specs.Store.{all_moved_from, asks_for, entries_after, holder, loaded_into}
-use Rattle.am_effect.specs.Operations.{changed, find_live, wished, with_ghost, with_value}
+use Rattle.am_effect.specs.Operations.{changed, find_live, new_records, Update, updates, updated, wished, with_ghost}
+use Rattle.am_effect.specs.Operations.{with_ghosts, with_record, with_value}
 use Rattle.am_effect.specs.Store.{moved_from, opened, reads, was_read, wishes_after, with_wish}
 use Rattle.am_index.proofs.Edits.{find-miss, one_place}
+use Rattle.am_index.specs.Content.{content}
 use Rattle.am_index.specs.Entries.{IsRising, Slot, find, insert_entry, remove_entry, set_entry, slot_of}
 use Rattle.am_record.specs.EntryOrder.{Place, place_cmp, place_of}
 use Rattle.am_record.specs.Interval.{Interval, within}
 use Rattle.am_record.specs.OrderedKey.{OrderedKey}
+use Rattle.am_record.specs.Plain.{scan_rows}
 use Rattle.am_record.specs.Records.{Records}
 use Rattle.am_record.specs.declared.entry.Entry.{Entry}
 use Rattle.am_record.specs.declared.step.Op.{Op}
-use Rattle.am_record.specs.declared.step.Op.TheVariants.{Back, Delete, Insert, Load, Replace}
+use Rattle.am_record.specs.declared.step.Op.TheVariants.{Back, Delete, DeleteRange, Insert, Load, Put, Replace, Set}
 use Rattle.am_record.specs.declared.step.Refusal.TheVariants.{BadLimit}
 use Rattle.am_record.specs.declared.step.Reply.{Reply}
-use Rattle.am_record.specs.declared.step.Reply.TheVariants.{Aborted, Cleaned, Done, Ended, MergeDone, Moved, Refused}
+use Rattle.am_record.specs.declared.step.Reply.TheVariants.{Aborted, Cleaned, Deleted, Done, Ended, MergeDone, Moved}
+use Rattle.am_record.specs.declared.step.Reply.TheVariants.{Refused}
 use Rattle.am_record.specs.declared.step.Step.{Step}
 use Rattle.am_record.specs.declared.step.Step.TheVariants.{Abort, Clean, Do, Merge}
 use Rattle.am_record.proofs.Lists.{AllByRecursion-map, AllByRecursion-take, AllByRecursion-drop, AllByRecursion-push}
@@ -169,6 +173,16 @@ count-ghost : (run : ℕ) (o : Option Entry) (es : List Entry) → count run (wi
 count-ghost run None es = refl
 count-ghost run (Some e) es = count-set run es e.part e.key e.value true
 
+count-ghosts : (run : ℕ) (rs : Records) (es : List Entry) → count run (with_ghosts rs es) ≡ count run es
+count-ghosts run [] es = refl
+count-ghosts run (r ∷ rs) es = count-ghosts run rs (with_ghost (find_live es r.0) es) ∙
+    count-ghost run (find_live es r.0) es
+
+count-updated : (run : ℕ) (us : List Update) (es : List Entry) → count run (updated us es) ≡ count run es
+count-updated run [] es = refl
+count-updated run (u ∷ us) es = count-updated run us (with_value (Some u.0) u.1 es) ∙
+    count-value run (Some u.0) u.1 es
+
 count-with_run : (run r : ℕ) (pairs : Records) (es : List Entry) → count run (with_run r pairs es) ≤ cond (r == run)
     (length pairs) 0 + count run es
 count-with_run run r [] es = elim (r == run) as (λ b. count run es ≤ cond b 0 0 + count run es)
@@ -185,16 +199,34 @@ count-with_run run r (p ∷ ps) es =
     joined false n x y z h k = omega arith
 
 module _ (run : ℕ) (above : run ≢ 0) where
-  count-changed : (gone : List Entry) (t runs : ℕ) (op : Op) (reply : Reply) (es : List Entry) →
-      count run gone ≡ count run es → count run (changed gone runs op reply es) ≤ count run es + loaded_into run runs
-      (Do t op) reply
-  count-changed gone t runs (Insert k v) Done es g =
+  count-final : (k : OrderedKey) (v : List ℕ) (es : List Entry) → count run (put (live_entry 0 (k, v)) es) ≤ count run
+      es
+  count-final k v es =
       let one = count-put run (live_entry 0 (k, v)) es in
       let none : one_in run (live_entry 0 (k, v)) ≡ 0 = cond-false (0 == run) 1 0 (ne_eqb 0 run (λ h. above (sym h))) in
       omega arith
+
+  count-record : (o : Option Entry) (k : OrderedKey) (v : List ℕ) (es : List Entry) →
+      count run (with_record o k v es) ≤ count run es
+  count-record None k v es = count-final k v es
+  count-record (Some e) k v es = let same = count-value run (Some e) v es in omega arith
+
+  count-changed : (gone : List Entry) (t runs : ℕ) (op : Op) (reply : Reply) (es : List Entry) →
+      count run gone ≡ count run es → count run (changed gone runs op reply es) ≤ count run es + loaded_into run runs
+      (content es) (Do t op) reply
+  count-changed gone t runs (Insert k v) Done es g = let no_more = count-final k v es in omega arith
   count-changed gone t runs (Replace k v) Done es g = let same = count-value run (find_live es k) v es in omega arith
+  count-changed gone t runs (Set k v) Done es g = let no_more = count-record (find_live es k) k v es in omega arith
   count-changed gone t runs (Delete k) Done es g = let same = count-ghost run (find_live es k) es in omega arith
+  count-changed gone t runs (DeleteRange range max) (Deleted n) es g =
+      let same = count-ghosts run (scan_rows range max (content es)) es in
+      omega arith
   count-changed gone t runs (Load pairs) Done es g = let more = count-with_run run (runs + 1) pairs es in omega arith
+  count-changed gone t runs (Put pairs) Done es g =
+      let new : Records = new_records pairs (content es) in
+      let more = count-with_run run (runs + 1) new es in
+      let same = count-updated run (updates pairs es) (with_run (runs + 1) new es) in
+      omega arith
   count-changed gone t runs Back Done es g = omega arith
   count-changed gone t runs op reply es g = omega arith
 
@@ -202,7 +234,7 @@ module _ (run : ℕ) (above : run ≢ 0) where
   count-step : (most_runs : ℕ) (s : Store) (step : Step) (reply : Reply) → IsRising s.entries →
       MayReply most_runs s step reply →
       moved_from run step reply + count run (entries_after s step reply) ≤ count run s.entries + loaded_into run
-      s.state.runs step reply
+      s.state.runs (content s.entries) step reply
   count-step most_runs s (Do t op) reply r may = let h = count-changed (gone_back t s.past s.entries) t s.state.runs op
       reply
       s.entries (count-reslotted run (λ part key x. left_at t (part, key)

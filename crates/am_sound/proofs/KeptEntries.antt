@@ -11,14 +11,15 @@ use Rattle.am_record.specs.Asks.{lock_of, owns, owns_key}
 use Rattle.am_record.specs.declared.lock.Lock.{Lock}
 use Rattle.am_record.specs.declared.entry.Entry.{Entry}
 use Rattle.am_record.specs.declared.step.Op.{Op}
-use Rattle.am_record.specs.declared.step.Op.TheVariants.{Insert, Replace, Delete, Load}
+use Rattle.am_record.specs.declared.step.Op.TheVariants.{Insert, Replace, Set, Delete, DeleteRange, Load, Put}
 use Rattle.am_record.specs.declared.step.Reply.{Reply}
-use Rattle.am_record.specs.declared.step.Reply.TheVariants.{Done}
+use Rattle.am_record.specs.declared.step.Reply.TheVariants.{Done, Deleted}
 use Rattle.am_index.specs.Entries.{find}
+use Rattle.am_index.specs.Content.{content}
 use Rattle.am_undo.specs.declared.note.Note.{Note}
 use Rattle.am_undo.specs.Undo.{is_noted_run}
-use Rattle.am_serial.specs.Trace.{Effect, Begins, Answers}
-use Rattle.am_serial.specs.Machine.{State, is_open, locks_in, next, owns_in}
+use Rattle.am_serial.specs.Trace.{Effect, Begins, Answers, runs_made}
+use Rattle.am_serial.specs.Machine.{State, is_open, view, locks_in, next, owns_in}
 use Rattle.am_serial.specs.Steps.{StepLaws, IsGranted}
 use Rattle.am_serial.specs.Laws.{ViewLaws}
 use Rattle.am_serial.proofs.Bodies.{owns_holds, asked_keeps, asked_has, owns_key_up, not_held}
@@ -48,8 +49,11 @@ writes_may (Insert k v) Done q o h = subst (λ x. may_write (Insert k v) x ≡ t
     (in_point k)
 writes_may (Replace k v) Done q o h = subst (λ x. may_write (Replace k v) x ≡ true) (sym (key_eq-exact q k h))
     (in_point k)
+writes_may (Set k v) Done q o h = subst (λ x. may_write (Set k v) x ≡ true) (sym (key_eq-exact q k h)) (in_point k)
 writes_may (Delete k) Done q o h = subst (λ x. may_write (Delete k) x ≡ true) (sym (key_eq-exact q k h)) (in_point k)
+writes_may (DeleteRange range max) (Deleted n) q o h = h
 writes_may (Load pairs) Done q o h = in_span pairs q o h
+writes_may (Put pairs) Done q o h = in_span pairs q o h
 writes_may op reply q o h = absurd (false≢true h)
 
 no_notes : (t : ℕ) (past : List Moment) (es : List Entry) → ((q : OrderedKey) → wrote t q past ≡ false) →
@@ -205,16 +209,17 @@ module _ (s : State) (w : ViewLaws s) (st : StepLaws s) (es : List Entry) (past 
 
     -- an operation that is granted, Mark and Back aside
     pub answers : (es' : List Entry) (new : List Note) → is_plain op ≡ true → OpRight t s.runs op reply es es' new
-        → Keeps (next s (Answers t op reply)) es' ((Answers t op reply, es) ∷ past)
+        → runs_made (view s t).map op reply ≡ runs_made (content es) op reply → Keeps (next s (Answers t op reply)) es'
+        ((Answers t op reply, es) ∷ past)
         (λ u. cond (t == u) (new ++ notes u) (notes u)) marks
-    answers es' new plain r = record {
+    answers es' new plain r made = record {
       describes = λ u on. by_case u on (t == u) refl;
       owned = owned_later;
       unborn = unborn_later;
       fresh = fresh_later;
       runs_noted = λ u p h. ⊎_elim
           (λ yes. ⊎_elim
-          (λ now. r.runs_noted p now)
+          (λ now. let x = r.runs_noted p now in (x.0, subst (λ n. p ≤ s.runs + n) (sym made) x.1))
           (λ before. let b = k.runs_noted u p before in (b.0, omega (arith, b.1)))
           (or_cases (is_noted_run new p) (is_noted_run (notes u) p) (sym (list_any-append _ new (notes u)) ∙
           sym (ap (λ (ns : List Note). is_noted_run ns p) (cond-true (t == u) (new ++ notes u) (notes u) yes)) ∙
@@ -222,7 +227,7 @@ module _ (s : State) (w : ViewLaws s) (st : StepLaws s) (es : List Entry) (past 
           (λ other. let b = k.runs_noted u p (sym (ap (λ (ns : List Note). is_noted_run ns p)
           (cond-false (t == u) (new ++ notes u) (notes u) other)) ∙ h) in (b.0, omega (arith, b.1)))
           (cases_Bool (t == u));
-      below = r.below;
+      below = λ p q h. r.below p q (subst (λ n. s.runs + n < p) made h);
     }
       where
         of_t : DescribesEach t ((Answers t op reply, es) ∷ past) es' (new ++ notes t) 0 (length (new ++ notes t))

@@ -1,4 +1,5 @@
 pub mod RepresentsLaws
+pub mod Series
 pub mod Operations
 pub mod KeptEntries
 pub mod Whole

@@ -34,12 +34,14 @@ use Rattle.am_record.specs.Plain.{PlainMap, answer, is_orderly, found, exists_or
 use Rattle.am_record.specs.declared.lock.Lock.{Lock as TheLock}
 use Rattle.am_record.specs.declared.entry.Entry.{Entry}
 use Rattle.am_record.specs.declared.step.Op.{Op}
-use Rattle.am_record.specs.declared.step.Op.TheVariants.{Back, Delete, Get, Insert, Load, Replace}
+use Rattle.am_record.specs.declared.step.Op.TheVariants.{Back, Delete, DeleteRange, Get, Insert, Load, Put, Replace}
+use Rattle.am_record.specs.declared.step.Op.TheVariants.{Set}
 use Rattle.am_record.specs.declared.step.Refusal.{Refusal}
 use Rattle.am_record.specs.declared.step.Refusal.TheVariants.{BadLimit, NoMemory, NoSuchTx, NotRising, TooManyOps}
 use Rattle.am_record.specs.declared.step.Refusal.TheVariants.{TooManyRuns, TooManyTx}
 use Rattle.am_record.specs.declared.step.Reply.{Reply}
-use Rattle.am_record.specs.declared.step.Reply.TheVariants.{Aborted, Begun, Committed, Done, Exists, Missing, NoMark}
+use Rattle.am_record.specs.declared.step.Reply.TheVariants.{Aborted, Begun, Committed, Deleted, Done, Exists, Missing}
+use Rattle.am_record.specs.declared.step.Reply.TheVariants.{NoMark}
 use Rattle.am_record.specs.declared.step.Reply.TheVariants.{Refused}
 use Rattle.am_record.specs.declared.step.Step.{Step}
 use Rattle.am_record.specs.declared.step.Step.TheVariants.{Abort, Begin, Clean, Commit, Do, Merge}
@@ -47,7 +49,8 @@ use Rattle.am_serial.proofs.Bodies.{locks_of-push}
 use Rattle.am_serial.proofs.OneStep.{step_laws}
 use Rattle.am_serial.proofs.States.{overlay_laws, view_laws}
 use Rattle.am_serial.specs.Laws.{OverlayLaws, ViewLaws}
-use Rattle.am_record.specs.Refusals.{lock_refusal, is_bounded, is_load, is_one_too_many, or_else, refusal_before_lock}
+use Rattle.am_record.specs.Refusals.{lock_refusal, is_bounded, may_make_run, is_one_too_many, or_else}
+use Rattle.am_record.specs.Refusals.{refusal_before_lock}
 use Rattle.am_serial.specs.Machine.{State, Transaction, blocker, body_in, due, extended, is_open, locks_in, owns_in}
 use Rattle.am_serial.specs.Machine.{is_full, says_full, view, without_transaction}
 use Rattle.am_serial.proofs.Runs.{none_without}
@@ -197,8 +200,11 @@ changed_alike : (gone gone' : List Entry) (runs : ℕ) (op : Op) (reply : Reply)
 changed_alike gone gone' runs Back Done es h = h refl
 changed_alike gone gone' runs (Insert k v) Done es h = refl
 changed_alike gone gone' runs (Replace k v) Done es h = refl
+changed_alike gone gone' runs (Set k v) Done es h = refl
 changed_alike gone gone' runs (Delete k) Done es h = refl
+changed_alike gone gone' runs (DeleteRange range max) (Deleted n) es h = refl
 changed_alike gone gone' runs (Load pairs) Done es h = refl
+changed_alike gone gone' runs (Put pairs) Done es h = refl
 changed_alike gone gone' runs op reply es h = refl
 
 wished_refused : (op : Op) (why : Refusal) → wished op (Refused why) ≡ None
@@ -326,7 +332,7 @@ module _ (most_runs : ℕ) (trace : Trace) (s : Store) (r : Right most_runs trac
       due (is_full most_runs s.state.runs reply) s.state t op ≡ due full s.state t op
   owed t op reply m = full_alike reply (nat_le 65535 s.state.runs) (blocker s.state.active t (lock_of op))
       (is_one_too_many (locks_in s.state.active t) (lock_of op)) (not (is_open s.state.active t))
-      (nat_le 4096 (length (body_in s.state.active t))) (not (is_orderly op)) (not (is_bounded op)) (is_load op)
+      (nat_le 4096 (length (body_in s.state.active t))) (not (is_orderly op)) (not (is_bounded op)) (may_make_run op)
       (nat_le most_runs s.state.runs) (nat_le 65535 (runs_in s.entries)) as_many_made
       (tells t op reply (due full s.state t op) m)
 
@@ -446,6 +452,26 @@ module _ (most_runs : ℕ) (trace : Trace) (s : Store) (r : Right most_runs trac
   back_counts t Back Done h e = backed_is t h
   back_counts t op reply h e = absurd (false≢true e)
 
+  -- the operation makes as many runs on the content as on what its transaction sees
+  made_alike : (t : ℕ) (op : Op) (reply : Reply) → MayReply most_runs s (Do t op) reply →
+      runs_made (view s.state t).map op reply ≡ runs_made (content s.entries) op reply
+  made_alike t op reply h = by_due (is_full most_runs s.state.runs reply)
+      (due (is_full most_runs s.state.runs reply) s.state t op) refl h
+    where
+      of_refused : (m : PlainMap) (op : Op) (why : Refusal) → runs_made m op (Refused why) ≡ 0
+      of_refused m (Load pairs) why = refl
+      of_refused m (Put pairs) why = refl
+      of_refused m op why = refl
+
+      by_due : (now : Bool) (o : Option Refusal) → due now s.state t op ≡ o →
+          MatchOption o ((reply ≡ answer op (view s.state t)) ⊎ (reply ≡ Refused NoMemory))
+          (λ why. reply ≡ Refused why) →
+          runs_made (view s.state t).map op reply ≡ runs_made (content s.entries) op reply
+      by_due now None e m = go.made t op (none_without now s.state t op e) reply
+      by_due now (Some why) e m =
+          ap (runs_made (view s.state t).map op) m ∙ of_refused (view s.state t).map op why
+          ∙ sym (ap (runs_made (content s.entries) op) m ∙ of_refused (content s.entries) op why)
+
   do_parts : (t : ℕ) (op : Op) (reply : Reply) → MayReply most_runs s (Do t op) reply →
       state_of most_runs (after_step s (Do t op) reply) ≡
       state_after (state_of most_runs s) (Do t op) reply
@@ -476,13 +502,14 @@ module _ (most_runs : ℕ) (trace : Trace) (s : Store) (r : Right most_runs trac
       op reply
       s.entries (back_counts t op reply h) in
       let table = did_all t op reply (noted s.state.runs op reply s.entries) s.notes s.marks s.state.active in
+      let runs = made_alike t op reply h in
       λ i. record {
         most_runs = most_runs;
         entries = es i;
         wishes = with_wish s.wishes (wished op reply);
         begun = s.state.begun;
         commits = s.state.commits;
-        runs = s.state.runs + runs_made op reply;
+        runs = s.state.runs + runs i;
         active = table i;
       }
 

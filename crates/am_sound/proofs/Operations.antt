@@ -1,30 +1,36 @@
 -- What a granted operation does to the entries, to its transaction's notes and to looking back.
 use Rattle.std.proofs.Common.{◌≡◌, ◌≢◌, ◌≤◌, ◌<◌, ◌+◌, ℕ, List, [], ◌∷◌, ◌++◌, Bool, true, false, cond, ◌&&◌, refl, sym}
 use Rattle.std.proofs.Common.{ap, ◌∙◌, subst, ⊎_elim, Option, Some, None, arith}
-use Rattle.std.specs.Prelude.{◌==◌, not, is_some}
+use Rattle.std.specs.Prelude.{◌==◌, not, is_some, length}
+use Rattle.std.proofs.Math.Bool.{and-false}
+use Rattle.std.proofs.lemmas.List.{append_assoc}
 use Rattle.std.specs.List.{AllByRecursion}
 use Rattle.std.specs.Option.{option_map}
-use Rattle.std.specs.Ordering.{eq_by_cmp, is_lt}
-use Rattle.std.specs.FinMap.{get, insert, remove, contains_key, same_map, get-insert, get-remove, retain_keys}
+use Rattle.std.specs.Ordering.{eq_by_cmp}
+use Rattle.std.specs.FinMap.{get, insert, remove, contains_key, get-insert, retain_keys}
 use Rattle.std.specs.FinMap.{get-retain_keys, get-entries, is_sorted}
 use Rattle.std.specs.FinMap.Entries.{below_all}
+use Rattle.std.specs.FinMap.Entries.{is_sorted-where_key}
 use Rattle.std.specs.FinMap.Entries as fin
 use Rattle.std.proofs.lemmas.Bool.{cases_Bool, cond-true, cond-false, and_parts, and_from, both_ways, or_left, or_right}
 use Rattle.std.proofs.lemmas.Bool.{or_cases, eqb-true, eq-eqb, true≢false, false≢true, false_from_ne_true, not-true}
 use Rattle.std.proofs.lemmas.Option.{none-some}
-use Rattle.std.proofs.lemmas.Cmp.{tied_itself}
+use Rattle.std.proofs.lemmas.Float.{T_from_true}
 use Rattle.am_record.specs.OrderedKey.{OrderedKey, key_cmp, key_cmp-total, key_cmp-exact, key_eq-exact}
 use Rattle.am_record.specs.EntryOrder.{Place, place_of}
+use Rattle.am_record.specs.Interval.{Interval, within}
+use Rattle.am_record.specs.Plain.{scan_rows, has_new}
 use Rattle.am_record.specs.Plain.{Records, PlainMap, is_key_of, rows_where, found, exists_or_done, first_key}
 use Rattle.am_record.specs.Plain.{least_taken, map_answer, insert_all, load_where, map_after, is_rising, is_orderly}
 use Rattle.am_record.specs.declared.entry.Entry.{Entry}
 use Rattle.am_record.specs.declared.step.Op.{Op}
-use Rattle.am_record.specs.declared.step.Op.TheVariants.{Get, Scan, Insert, Replace, Delete, Load, Lock as TakeLock}
-use Rattle.am_record.specs.declared.step.Op.TheVariants.{Mark, Back}
+use Rattle.am_record.specs.declared.step.Op.TheVariants.{Get, Scan, ScanBack, Insert, Replace, Set, Delete}
+use Rattle.am_record.specs.declared.step.Op.TheVariants.{DeleteRange, Load, Put, Lock as TakeLock, Mark, Back}
 use Rattle.am_record.specs.declared.step.Reply.{Reply}
-use Rattle.am_record.specs.declared.step.Reply.TheVariants.{Done, Exists, Missing}
+use Rattle.am_record.specs.declared.step.Reply.TheVariants.{Done, Exists, Missing, Deleted}
 use Rattle.am_record.proofs.FirstRows.{key_eq-itself}
 use Rattle.am_record.proofs.RisingRecords.{run_sorted}
+use Rattle.am_record.proofs.Outcomes.{is_true}
 use Rattle.am_index.specs.Entries.{Slot, slot_of, first_such, entry_at, find, insert_entry, set_entry, IsRising}
 use Rattle.am_index.specs.Edits.{IsChangedAt}
 use Rattle.am_index.specs.Content.{content, IsLiveAt, OnePlace, HasContent}
@@ -39,18 +45,25 @@ use Rattle.am_undo.specs.Undo.{is_noted_run, Undoes}
 use Rattle.am_undo.proofs.TakeBacks.{undo_laws}
 use Rattle.am_index.specs.Runs.{live_entry, with_run}
 use Rattle.am_index.proofs.RunLaws.{run_laws}
-use Rattle.am_serial.specs.Trace.{Answers, runs_made}
-use Rattle.am_serial.proofs.Maps.{entries-retain_keys}
+use Rattle.am_serial.specs.Trace.{Effect, Answers, runs_made}
+use Rattle.am_serial.proofs.Maps.{entries-retain_keys, scan_rows_within, insert_all-parted}
 use Rattle.am_serial.proofs.Keys.{in_point, in_span}
 use Rattle.am_effect.specs.Places.{look, put}
 use Rattle.am_effect.specs.History.{Moment, wrote_by}
 use Rattle.am_effect.specs.Operations.{writes, is_plain}
-use Rattle.am_effect.specs.Laws.{Describes, DifferAt}
-use Rattle.am_effect.specs.Operations.{is_live, find_live, with_value, with_ghost, changed, note_of_slot, note_of_entry}
-use Rattle.am_effect.specs.Operations.{noted}
+use Rattle.am_effect.specs.Laws.{Describes, DifferAt, Sweeps}
+use Rattle.am_effect.specs.Operations.{is_live, find_live, with_value, with_ghost, with_record, with_ghosts, changed}
+use Rattle.am_effect.specs.Operations.{note_of_slot, note_of_entry, note_of_record, notes_of_ghosts, noted, new_records}
+use Rattle.am_effect.specs.Operations.{Update, updates, updated, notes_of_updates, note_of_run}
 use Rattle.am_effect.proofs.Lists.{Stands, stands_all, put_set, put_new, content-put}
-use Rattle.am_effect.proofs.Backs.{describe_laws}
+use Rattle.am_effect.proofs.Backs.{describe_laws, run_of_older}
+use Rattle.am_effect.proofs.Puts.{are_any, has_new_records, new_key, rows_of, IsUpdate, updates_live, rows_of_updates}
+use Rattle.am_effect.proofs.NotesAtPlaces.{none_before}
+use Rattle.am_effect.proofs.Sweeps.{sweeps_none}
 use Rattle.am_sound.specs.Represents.{may_write}
+use Rattle.am_sound.proofs.Series.{remove_none, key_apart, updates_apart, updated_beside, AreChanged, all_gone}
+use Rattle.am_sound.proofs.Series.{IsAllowed}
+use Rattle.am_sound.proofs.Series.{all_set}
 
 -- what an operation of t that is granted does, after so many runs
 pub record OpRight (t runs : ℕ) (op : Op) (reply : Reply) (es es' : List Entry) (new : List Note) : Type 0 where
@@ -62,8 +75,8 @@ pub record OpRight (t runs : ℕ) (op : Op) (reply : Reply) (es es' : List Entry
       Undoes es' (new ++ notes) owned before
   pub describe : (past : List Moment) (notes : List Note) → Describes t past es notes →
       Describes t ((Answers t op reply, es) ∷ past) es' (new ++ notes)
-  pub below : (p : ℕ) (q : OrderedKey) → runs + runs_made op reply < p → find es' p q ≡ None
-  pub runs_noted : (p : ℕ) → is_noted_run new p ≡ true → (p ≢ 0) × (p ≤ runs + runs_made op reply)
+  pub below : (p : ℕ) (q : OrderedKey) → runs + runs_made (content es) op reply < p → find es' p q ≡ None
+  pub runs_noted : (p : ℕ) → is_noted_run new p ≡ true → (p ≢ 0) × (p ≤ runs + runs_made (content es) op reply)
 
 module _ (t runs : ℕ) (es : List Entry) (rise : IsRising es) (one : OnePlace es)
     (empty_above : (p : ℕ) (q : OrderedKey) → runs < p → find es p q ≡ None) where
@@ -90,7 +103,7 @@ module _ (t runs : ℕ) (es : List Entry) (rise : IsRising es) (one : OnePlace e
 
   -- one entry is put
   module _ (op : Op) (reply : Reply) (k : OrderedKey) (writes_k : writes op reply k ≡ true)
-      (may_k : may_write op k ≡ true) (makes_none : runs_made op reply ≡ 0) where
+      (may_k : may_write op k ≡ true) (makes_none : runs_made m op reply ≡ 0) where
     wrote_k : wrote_by t k (Answers t op reply) ≡ true
     wrote_k = and_from (t == t) (writes op reply k) (eq-eqb t t refl) writes_k
 
@@ -153,27 +166,29 @@ module _ (t runs : ℕ) (es : List Entry) (rise : IsRising es) (one : OnePlace e
 
   -- ---- inserts
 
-  inserted : (k : OrderedKey) (v : List ℕ) → get m k ≡ None → OpRight t runs (Insert k v) Done es
-      (put (live_entry 0 (k, v)) es) (note_of_slot 0 k (find es 0 k) ∷ [])
-  inserted k v none = by_slot (find es 0 k) refl
-    where
-      has : HasContent (put (live_entry 0 (k, v)) es) (map_after (Insert k v) m)
-      has = subst (λ (n : PlainMap). HasContent (put (live_entry 0 (k, v)) es) n)
-          (sym (cond-false (contains_key m k) m (insert m k v) (ap is_some none)))
-          (content-put (live_entry 0 (k, v)) es rise one refl none)
+  -- a record is made whose key isn't live
+  module _ (op : Op) (k : OrderedKey) (v : List ℕ) (writes_k : writes op Done k ≡ true) (may_k : may_write op k ≡ true)
+      (makes_none : runs_made m op Done ≡ 0) (same : map_after op m ≡ insert m k v) where
+    inserted : get m k ≡ None →
+        OpRight t runs op Done es (put (live_entry 0 (k, v)) es) (note_of_slot 0 k (find es 0 k) ∷ [])
+    inserted none = by_slot (find es 0 k) refl
+      where
+        has : HasContent (put (live_entry 0 (k, v)) es) (map_after op m)
+        has = subst (λ (n : PlainMap). HasContent (put (live_entry 0 (k, v)) es) n) (sym same)
+            (content-put (live_entry 0 (k, v)) es rise one refl none)
 
-      by_slot : (o : Option Slot) → find es 0 k ≡ o → OpRight t runs (Insert k v) Done es (put (live_entry 0 (k, v)) es)
-          (note_of_slot 0 k o ∷ [])
-      by_slot None e =
-          let is = put_new (live_entry 0 (k, v)) es (ap is_some e) in
-          subst (λ l. OpRight t runs (Insert k v) Done es l (New k ∷ [])) (sym is)
-          (anew (Insert k v) Done k (key_eq-itself k) (in_point k) refl (live_entry 0 (k, v)) refl refl e
-          (subst (λ l. HasContent l (map_after (Insert k v) m)) is has))
-      by_slot (Some s) e =
-          let is = put_set (live_entry 0 (k, v)) es (ap is_some e) in
-          subst (λ l. OpRight t runs (Insert k v) Done es l (Before 0 k s.0 s.1 ∷ [])) (sym is)
-          (over (Insert k v) Done k (key_eq-itself k) (in_point k) refl 0 s.0 s.1 v false e
-          (subst (λ l. HasContent l (map_after (Insert k v) m)) is has))
+        by_slot : (o : Option Slot) → find es 0 k ≡ o →
+            OpRight t runs op Done es (put (live_entry 0 (k, v)) es) (note_of_slot 0 k o ∷ [])
+        by_slot None e =
+            let is = put_new (live_entry 0 (k, v)) es (ap is_some e) in
+            subst (λ l. OpRight t runs op Done es l (New k ∷ [])) (sym is)
+            (anew op Done k writes_k may_k makes_none (live_entry 0 (k, v)) refl refl e
+            (subst (λ l. HasContent l (map_after op m)) is has))
+        by_slot (Some s) e =
+            let is = put_set (live_entry 0 (k, v)) es (ap is_some e) in
+            subst (λ l. OpRight t runs op Done es l (Before 0 k s.0 s.1 ∷ [])) (sym is)
+            (over op Done k writes_k may_k makes_none 0 s.0 s.1 v false e
+            (subst (λ l. HasContent l (map_after op m)) is has))
 
   -- ---- the live entry of a key
 
@@ -213,8 +228,22 @@ module _ (t runs : ℕ) (es : List Entry) (rise : IsRising es) (one : OnePlace e
 
   -- a change of the live entry
   module _ (op : Op) (k : OrderedKey) (writes_k : (q : OrderedKey) → eq_by_cmp key_cmp q k ≡ true →
-      writes op Done q ≡ true) (may_k : may_write op k ≡ true) (makes_none : runs_made op Done ≡ 0)
+      writes op Done q ≡ true) (may_k : may_write op k ≡ true) (makes_none : runs_made m op Done ≡ 0)
       (value : Entry → List ℕ) (is_ghost : Bool) where
+    at_entry : ((e : Entry) → IsLiveAt es e.part e.key e.value → e.key ≡ k →
+        HasContent (set_entry es e.part e.key (value e) is_ghost) (map_after op m)) →
+        (x : Entry) → find_live es k ≡ Some x →
+        OpRight t runs op Done es (set_entry es x.part x.key (value x) is_ghost)
+        (Before x.part x.key x.value x.is_ghost ∷ [])
+    at_entry law x e =
+        let f = live_found k x e in
+        let parts = and_parts (not x.is_ghost) (eq_by_cmp key_cmp x.key k) f.1 in
+        let key : x.key ≡ k = key_eq-exact x.key k parts.1 in
+        let live : IsLiveAt es x.part x.key x.value =
+        record { there = f.0 ∙ ap (slotted x.value) (not-true x.is_ghost parts.0) } in
+        over op Done x.key (writes_k x.key parts.1) (ap (may_write op) key ∙ may_k) makes_none x.part x.value
+        x.is_ghost (value x) is_ghost f.0 (law x live key)
+
     at_live : (edit : Option Entry → List Entry) →
         ((e : Entry) → edit (Some e) ≡ set_entry es e.part e.key (value e) is_ghost) →
         ((e : Entry) → IsLiveAt es e.part e.key e.value → e.key ≡ k →
@@ -225,28 +254,45 @@ module _ (t runs : ℕ) (es : List Entry) (rise : IsRising es) (one : OnePlace e
       where
         by_entry : (o : Option Entry) → find_live es k ≡ o → OpRight t runs op Done es (edit o) (note_of_entry o)
         by_entry None e = absurd (live_missed k w e has)
-        by_entry (Some x) e =
-            let f = live_found k x e in
-            let parts = and_parts (not x.is_ghost) (eq_by_cmp key_cmp x.key k) f.1 in
-            let key : x.key ≡ k = key_eq-exact x.key k parts.1 in
-            let live : IsLiveAt es x.part x.key x.value =
-            record { there = f.0 ∙ ap (slotted x.value) (not-true x.is_ghost parts.0) } in
-            subst (λ l. OpRight t runs op Done es l (Before x.part x.key x.value x.is_ghost ∷ [])) (sym (is x))
-            (over op Done x.key (writes_k x.key parts.1) (ap (may_write op) key ∙ may_k) makes_none x.part x.value
-            x.is_ghost (value x) is_ghost f.0 (law x live key))
+        by_entry (Some x) e = subst (λ l. OpRight t runs op Done es l (Before x.part x.key x.value x.is_ghost ∷ []))
+            (sym (is x)) (at_entry law x e)
+
+  -- the content has no record of a key that has no live entry
+  none_live : (k : OrderedKey) → find_live es k ≡ None → get m k ≡ None
+  none_live k h = by_value (get m k) refl
+    where
+      by_value : (o : Option (List ℕ)) → get m k ≡ o → get m k ≡ None
+      by_value None e = e
+      by_value (Some w) e = absurd (live_missed k w h e)
+
+  set_right : (k : OrderedKey) (v : List ℕ) → OpRight t runs (Set k v) Done es (with_record (find_live es k) k v es)
+      (note_of_record (find_live es k) k es ∷ [])
+  set_right k v = by_entry (find_live es k) refl
+    where
+      by_entry : (o : Option Entry) → find_live es k ≡ o → OpRight t runs (Set k v) Done es (with_record o k v es)
+          (note_of_record o k es ∷ [])
+      by_entry None e = inserted (Set k v) k v (key_eq-itself k) (in_point k) refl refl (none_live k e)
+      by_entry (Some x) e = at_entry (Set k v) k (λ q h. h) (in_point k) refl (λ y. v) false
+          (λ y live key. subst (λ (c : PlainMap). HasContent (set_entry es y.part y.key v false) c)
+          (ap (λ (q : OrderedKey). insert m q v) key)
+          ((content_laws es rise one).sets.replaced y.part y.key y.value v live))
+          x e
 
 -- ---- runs
 
-key_apart : (k : OrderedKey) (ps : Records) (q : OrderedKey) → below_all key_cmp k ps ≡ true → is_key_of ps q ≡ true →
-    q ≢ k
-key_apart k [] q b h = absurd (false≢true h)
-key_apart k (x ∷ ps) q b h =
-    let parts = and_parts (is_lt (key_cmp k x.0)) (below_all key_cmp k ps) b in
-    ⊎_elim
-    (λ here same. true≢false (sym parts.0 ∙ ap (λ y. is_lt (key_cmp k y)) (sym (key_eq-exact q x.0 here) ∙ same) ∙
-    ap is_lt (tied_itself key_cmp-total k)))
-    (λ later. key_apart k ps q parts.1 later)
-    (or_cases (eq_by_cmp key_cmp q x.0) (is_key_of ps q) h)
+-- records become a run, where there are some, by an event that wrote them; it makes so many runs
+record RunIsMade (t runs made : ℕ) (d : Effect) (may : OrderedKey → Bool) (pairs : Records) (es : List Entry)
+    (new : List Note) : Type 0 where
+  has : HasContent (with_run (runs + 1) pairs es) (insert_all pairs (content es))
+  only : (p : ℕ) (q : OrderedKey) → may q ≡ false → find (with_run (runs + 1) pairs es) p q ≡ find es p q
+  elsewhere : (p : ℕ) (q : OrderedKey) → p ≢ runs + 1 → find (with_run (runs + 1) pairs es) p q ≡ find es p q
+  undo : (notes : List Note) (owned : OrderedKey → Bool) (before : OrderedKey → Option (List ℕ)) →
+      ((q : OrderedKey) → may q ≡ true → owned q ≡ true) → Undoes es notes owned before →
+      Undoes (with_run (runs + 1) pairs es) (new ++ notes) owned before
+  describe : (past : List Moment) (notes : List Note) → Describes t past es notes →
+      Describes t ((d, es) ∷ past) (with_run (runs + 1) pairs es) (new ++ notes)
+  below : (p : ℕ) (q : OrderedKey) → runs + made < p → find (with_run (runs + 1) pairs es) p q ≡ None
+  noted : (p : ℕ) → is_noted_run new p ≡ true → (p ≢ 0) × (p ≤ runs + made)
 
 run_content : (run : ℕ) (pairs : Records) (es : List Entry) → IsRising es → OnePlace es →
     is_sorted key_cmp pairs ≡ true → ((q : OrderedKey) → is_key_of pairs q ≡ true → (find es run q ≡ None) ×
@@ -280,61 +326,184 @@ no_first : (rows : Records) → first_key rows ≡ None → rows ≡ []
 no_first [] h = refl
 no_first (row ∷ rows) h = absurd (none-some row.0 (sym h))
 
+-- where nothing stood, nothing stands after places were changed that stood
+still_none : {t : ℕ} {d : Effect} {es es' : List Entry} {new : List Note} → Sweeps t d es es' new → (p : ℕ)
+    (q : OrderedKey) → find es p q ≡ None → find es' p q ≡ None
+still_none {t} {d} {es} {es'} {new} w p q none = none_before new (p, q) (find es' p q) (w.taken_back (p, q) ∙ none)
+
 module _ (gone : List Entry) (t runs : ℕ) (es : List Entry) (rise : IsRising es) (one : OnePlace es)
     (empty_above : (p : ℕ) (q : OrderedKey) → runs < p → find es p q ≡ None) where
   abbrev cm : PlainMap
   cm = content es
 
+  -- records whose keys are dead become a run, by an event that wrote them
+  module _ (d : Effect) (may : OrderedKey → Bool) (wrote_may : (q : OrderedKey) → may q ≡ true → wrote_by t q d ≡ true)
+    where
+      run_made : (pairs : Records) → is_sorted key_cmp pairs ≡ true →
+          ((q : OrderedKey) → is_key_of pairs q ≡ true → (may q ≡ true) × (get cm q ≡ None)) →
+          RunIsMade t runs 1 d may pairs es (RunMade (runs + 1) ∷ [])
+      run_made pairs sorted dead = record {
+        has = run_content (runs + 1) pairs es rise one sorted (λ q h. (fresh q, (dead q h).1));
+        only = λ p q h. ⊎_elim
+            (λ yes. let here = eqb-true p (runs + 1) yes in ap (λ r. find (with_run (runs + 1) pairs es) r q) here ∙
+            other_keys q (absent q h) ∙ ap (λ r. find es r q) (sym here))
+            (λ no. other_parts p q no)
+            (cases_Bool (p == (runs + 1)));
+        elsewhere = λ p q n. other_parts p q (apart p n);
+        undo = λ notes owned before more u. (undo_laws es notes owned before rise one u).own.loaded
+            (with_run (runs + 1) pairs es) (runs + 1) (record {
+              fresh = fresh;
+              elsewhere = other_parts;
+              own = λ q not. other_keys q (absent q (false_from_ne_true _
+                  (λ yes. both_ways (owned q) not (more q yes))))
+                  ∙ fresh q;
+            });
+        describe = λ past notes u. (describe_laws t past es notes u).loaded d (with_run (runs + 1) pairs es) (runs + 1)
+            fresh
+            (λ q not. other_keys q (absent q (false_from_ne_true _
+            (λ yes. both_ways (wrote_by t q d) not (wrote_may q yes)))) ∙ fresh q)
+            (λ p q n. other_parts p q (apart p n));
+        below = λ p q h. other_parts p q (apart p (λ e. absurd (omega arith))) ∙ empty_above p q (omega arith);
+        noted = λ p h. ⊎_elim (λ yes. let e = eqb-true p (runs + 1) yes in ((λ z. absurd (omega arith)), omega arith))
+            (λ no. absurd (false≢true no)) (or_cases (p == (runs + 1)) false h);
+      }
+        where
+          fresh : (q : OrderedKey) → find es (runs + 1) q ≡ None
+          fresh q = empty_above (runs + 1) q (omega arith)
+
+          other_parts : (p : ℕ) (q : OrderedKey) → (p == (runs + 1)) ≡ false →
+              find (with_run (runs + 1) pairs es) p q ≡ find es p q
+          other_parts p q h = (run_laws es rise).other_parts (runs + 1) pairs p q h
+
+          other_keys : (q : OrderedKey) → is_key_of pairs q ≡ false → find (with_run (runs + 1) pairs es) (runs + 1) q ≡
+              find es (runs + 1) q
+          other_keys q h = (run_laws es rise).other_keys (runs + 1) pairs q h
+
+          apart : (p : ℕ) → p ≢ (runs + 1) → (p == (runs + 1)) ≡ false
+          apart p n = false_from_ne_true (p == (runs + 1)) (λ e. n (eqb-true p (runs + 1) e))
+
+          absent : (q : OrderedKey) → may q ≡ false → is_key_of pairs q ≡ false
+          absent q h = false_from_ne_true _ (λ yes. both_ways (may q) h (dead q yes).0)
+
+      none_made : RunIsMade t runs 0 d may [] es []
+      none_made = record {
+        has = record { rising = rise; one_place = one; same = refl };
+        only = λ p q h. refl;
+        elsewhere = λ p q n. refl;
+        undo = λ notes owned before more u. u;
+        describe = λ past notes u. (describe_laws t past es notes u).swept d es [] (sweeps_none t d es);
+        below = λ p q h. empty_above p q (omega (arith, h));
+        noted = λ p h. absurd (false≢true h);
+      }
+
   loaded : (pairs : Records) → is_rising pairs ≡ true → least_taken pairs cm ≡ None →
       OpRight t runs (Load pairs) Done es (with_run (runs + 1) pairs es) (RunMade (runs + 1) ∷ [])
-  loaded pairs up none = record {
-    has = subst (λ (c : PlainMap). HasContent (with_run (runs + 1) pairs es) c)
-        (sym (ap (λ o. load_where o pairs cm) none))
-        (run_content (runs + 1) pairs es rise one (run_sorted pairs up)
-        (λ q h. (fresh q, no_rows (is_key_of pairs) cm (no_first (rows_where (is_key_of pairs) cm) none) q h)));
-    only = λ p q h. ⊎_elim
-        (λ yes. let here = eqb-true p (runs + 1) yes in ap (λ r. find (with_run (runs + 1) pairs es) r q) here ∙
-        other_keys q (absent q h) ∙ ap (λ r. find es r q) (sym here))
-        (λ no. other_parts p q no)
-        (cases_Bool (p == (runs + 1)));
-    keeps = λ p q n l e. other_parts p q (apart p (λ h. absurd (omega arith))) ∙ e;
-    undo = λ notes owned before more u. (undo_laws es notes owned before rise one u).own.loaded
-        (with_run (runs + 1) pairs es) (runs + 1) (record {
-          fresh = fresh;
-          elsewhere = other_parts;
-          own = λ q not. other_keys q (absent q (false_from_ne_true _ (λ yes. both_ways (owned q) not (more q yes)))) ∙
-              fresh q;
-        });
-    describe = λ past notes u. (describe_laws t past es notes u).loaded (Answers t (Load pairs) Done)
-        (with_run (runs + 1) pairs es) (runs + 1)
-        fresh
-        (λ q not. other_keys q (second (t == t) (is_key_of pairs q) (eq-eqb t t refl) not) ∙ fresh q)
-        (λ p q n. other_parts p q (apart p n));
-    below = λ p q h. other_parts p q (apart p (λ e. absurd (omega arith))) ∙ empty_above p q (omega arith);
-    runs_noted = λ p h. ⊎_elim (λ yes. let e = eqb-true p (runs + 1) yes in ((λ z. absurd (omega arith)), omega arith))
-        (λ no. absurd (false≢true no)) (or_cases (p == (runs + 1)) false h);
-  }
+  loaded pairs up none =
+      let d : Effect = Answers t (Load pairs) Done in
+      let run = run_made d (is_key_of pairs) (λ q h. wrote t q (is_key_of pairs q) h) pairs (run_sorted pairs up)
+      (λ q h. (h, no_rows (is_key_of pairs) cm (no_first (rows_where (is_key_of pairs) cm) none) q h)) in
+      record {
+        has = subst (λ (c : PlainMap). HasContent (with_run (runs + 1) pairs es) c)
+            (sym (ap (λ o. load_where o pairs cm) none)) run.has;
+        only = λ p q h. run.only p q (absent q h);
+        keeps = λ p q n l e. run.elsewhere p q (λ h. absurd (omega arith)) ∙ e;
+        undo = λ notes owned before more u. run.undo notes owned before (λ q h. more q (in_span pairs q up h)) u;
+        describe = run.describe;
+        below = run.below;
+        runs_noted = run.noted;
+      }
     where
-      fresh : (q : OrderedKey) → find es (runs + 1) q ≡ None
-      fresh q = empty_above (runs + 1) q (omega arith)
-
-      other_parts : (p : ℕ) (q : OrderedKey) → (p == (runs + 1)) ≡ false → find (with_run (runs + 1) pairs es) p q ≡
-          find es p q
-      other_parts p q h = (run_laws es rise).other_parts (runs + 1) pairs p q h
-
-      other_keys : (q : OrderedKey) → is_key_of pairs q ≡ false → find (with_run (runs + 1) pairs es) (runs + 1) q ≡
-          find es (runs + 1) q
-      other_keys q h = (run_laws es rise).other_keys (runs + 1) pairs q h
-
-      apart : (p : ℕ) → p ≢ (runs + 1) → (p == (runs + 1)) ≡ false
-      apart p n = false_from_ne_true (p == (runs + 1)) (λ e. n (eqb-true p (runs + 1) e))
-
       absent : (q : OrderedKey) → may_write (Load pairs) q ≡ false → is_key_of pairs q ≡ false
       absent q h = false_from_ne_true _ (λ yes. both_ways (may_write (Load pairs) q) h (in_span pairs q up yes))
 
-      second : (a b : Bool) → a ≡ true → (a && b) ≡ false → b ≡ false
-      second true b e h = h
-      second false b e h = absurd (false≢true e)
+      wrote : (t : ℕ) (q : OrderedKey) (b : Bool) → b ≡ true → ((t == t) && b) ≡ true
+      wrote t q b h = and_from (t == t) b (eq-eqb t t refl) h
+
+  -- the values of records that are live, and a run of the others
+  put_right : (pairs : Records) → is_rising pairs ≡ true →
+      OpRight t runs (Put pairs) Done es (changed gone runs (Put pairs) Done es) (noted runs (Put pairs) Done es)
+  put_right pairs up =
+      let d : Effect = Answers t (Put pairs) Done in
+      let may : OrderedKey → Bool = is_key_of pairs in
+      let new : Records = new_records pairs cm in
+      let us : List Update = updates pairs es in
+      let es' : List Entry = with_run (runs + 1) new es in
+      let xs : List Note = note_of_run (runs + 1) new in
+      let made : ℕ = runs_made cm (Put pairs) Done in
+      let wrote_may : (q : OrderedKey) → may q ≡ true → wrote_by t q d ≡ true =
+      λ q h. and_from (t == t) (may q) (eq-eqb t t refl) h in
+      let run : RunIsMade t runs made d may new es xs = by_new d may wrote_may (λ q h. h) new refl in
+      let sets : AreChanged t d may (insert_all (rows_of us) (content es')) es' (updated us es') (notes_of_updates us) =
+      all_set t d may wrote_may us es' run.has.rising run.has.one_place
+      (allowed may (λ q h. h) es' run.elsewhere us (updates_live es rise one pairs))
+      (updates_apart es rise one pairs (run_sorted pairs up)) in
+      record {
+        has = record {
+          rising = sets.has.rising;
+          one_place = sets.has.one_place;
+          same = sets.has.same ∙ ap (insert_all (rows_of us)) run.has.same
+              ∙ ap (λ rs. insert_all rs (insert_all new cm)) (rows_of_updates es rise one pairs)
+              ∙ insert_all-parted (contains_key cm) pairs cm;
+        };
+        only = λ p q h. let not = absent q h in
+            sets.sweeps.others q (ap (λ b. (t == t) && b) not ∙ and-false (t == t)) p ∙ run.only p q not;
+        keeps = λ p q n l e. still_none sets.sweeps p q (run.elsewhere p q (λ h. absurd (omega arith)) ∙ e);
+        undo = λ notes owned before more u.
+            subst (λ ns. Undoes (updated us es') ns owned before) (sym (append_assoc (notes_of_updates us) xs notes))
+            (sets.undo (xs ++ notes) owned before (λ q h. more q (in_span pairs q up h))
+            (run.undo notes owned before (λ q h. more q (in_span pairs q up h)) u));
+        describe = λ past notes u.
+            subst (λ ns. Describes t ((d, es) ∷ past) (updated us es') ns)
+            (sym (append_assoc (notes_of_updates us) xs notes))
+            ((describe_laws t past es notes u).then_swept d es' (updated us es') (xs ++ notes) (notes_of_updates us)
+            (run.describe past notes u) sets.sweeps
+            (λ a none. updated_beside es rise one pairs us a es' (updates_live es rise one pairs) none));
+        below = λ p q h. still_none sets.sweeps p q (run.below p q h);
+        runs_noted = λ p h. run.noted p (run_of_older (notes_of_updates us) xs sets.sweeps.no_run p h);
+      }
+    where
+      absent : (q : OrderedKey) → may_write (Put pairs) q ≡ false → is_key_of pairs q ≡ false
+      absent q h = false_from_ne_true _ (λ yes. both_ways (may_write (Put pairs) q) h (in_span pairs q up yes))
+
+      by_new : (d : Effect) (may : OrderedKey → Bool) → ((q : OrderedKey) → may q ≡ true → wrote_by t q d ≡ true) →
+          ((q : OrderedKey) → is_key_of pairs q ≡ true → may q ≡ true) → (rs : Records) → new_records pairs cm ≡ rs →
+          RunIsMade t runs (cond (has_new pairs cm) 1 0) d may (new_records pairs cm) es
+          (note_of_run (runs + 1) (new_records pairs cm))
+      by_new d may wrote_may in_may [] e =
+          subst (λ b. RunIsMade t runs (cond b 1 0) d may (new_records pairs cm) es
+          (note_of_run (runs + 1) (new_records pairs cm)))
+          (sym (has_new_records cm pairs ∙ ap are_any e))
+          (subst (λ rs. RunIsMade t runs 0 d may rs es (note_of_run (runs + 1) rs)) (sym e)
+          (none_made d may wrote_may))
+      by_new d may wrote_may in_may (r ∷ rs) e =
+          subst (λ b. RunIsMade t runs (cond b 1 0) d may (new_records pairs cm) es
+          (note_of_run (runs + 1) (new_records pairs cm)))
+          (sym (has_new_records cm pairs ∙ ap are_any e))
+          (subst (λ ns. RunIsMade t runs 1 d may (new_records pairs cm) es ns)
+          (sym (ap (note_of_run (runs + 1)) e))
+          (run_made d may wrote_may (new_records pairs cm)
+          (is_true (is_sorted key_cmp (new_records pairs cm))
+          (is_sorted-where_key key_cmp (λ k. not (contains_key cm k)) pairs
+          (T_from_true (is_sorted key_cmp pairs) (run_sorted pairs up))))
+          (λ q h. let x = new_key cm pairs q h in (in_may q x.0, x.1))))
+
+      old_part : (u : Update) → IsLiveAt es u.0.part u.0.key u.0.value → u.0.part ≢ runs + 1
+      old_part u live h = none-some (u.0.value, false)
+          (sym (empty_above u.0.part u.0.key (omega arith)) ∙ live.there)
+
+      -- the live entries are live still when the run is made
+      allowed : (may : OrderedKey → Bool) → ((q : OrderedKey) → is_key_of pairs q ≡ true → may q ≡ true) →
+          (es' : List Entry) → ((p : ℕ) (q : OrderedKey) → p ≢ runs + 1 → find es' p q ≡ find es p q) →
+          (us : List Update) → AllByRecursion (IsUpdate es rise one pairs) us → AllByRecursion (IsAllowed may es') us
+      allowed may in_may es' same [] all = tt
+      allowed may in_may es' same (u ∷ us) all = (
+        record {
+          may_write = in_may u.0.key all.0.of_key;
+          mark = all.0.mark;
+          live = record { there = same u.0.part u.0.key (old_part u all.0.live) ∙ all.0.live.there };
+        },
+        allowed may in_may es' same us all.1,
+      )
 
   some_of : (k : OrderedKey) → contains_key cm k ≡ true → (w : List ℕ) × (get cm k ≡ Some w)
   some_of k h = by_value (get cm k) refl
@@ -358,7 +527,9 @@ module _ (gone : List Entry) (t runs : ℕ) (es : List Entry) (rise : IsRising e
       Right (Insert k v) (cond b (Exists k) Done)
   insert_right k v true h = idle t runs es rise one empty_above (Insert k v) (Exists k)
       (cond-true (contains_key cm k) cm (insert cm k v) h) (λ q. refl)
-  insert_right k v false h = inserted t runs es rise one empty_above k v (none_of k h)
+  insert_right k v false h = inserted t runs es rise one empty_above (Insert k v) k v (key_eq-itself k) (in_point k)
+      refl
+      (cond-false (contains_key cm k) cm (insert cm k v) h) (none_of k h)
 
   replace_right : (k : OrderedKey) (v : List ℕ) (b : Bool) → contains_key cm k ≡ b →
       Right (Replace k v) (cond b Done Missing)
@@ -383,10 +554,24 @@ module _ (gone : List Entry) (t runs : ℕ) (es : List Entry) (rise : IsRising e
       e.value live))
       some.0 some.1
   delete_right k false h = idle t runs es rise one empty_above (Delete k) Missing
-      (same_map key_cmp-total key_cmp-exact _ _ (λ q. get-remove key_cmp-total cm k q ∙ ⊎_elim
-      (λ yes. cond-true _ None (get cm q) yes ∙ sym (none_of k h) ∙ ap (get cm) (sym (key_eq-exact q k yes)))
-      (λ no. cond-false _ None (get cm q) no)
-      (cases_Bool (eq_by_cmp key_cmp q k)))) (λ q. refl)
+      (remove_none cm k (none_of k h)) (λ q. refl)
+
+  delete_range_right : (range : Interval) (max n : ℕ) → Right (DeleteRange range max) (Deleted n)
+  delete_range_right range max n =
+      let rows : Records = scan_rows range max cm in
+      let d : Effect = Answers t (DeleteRange range max) (Deleted n) in
+      let gone = all_gone t d (within range) (λ q h. and_from (t == t) (within range q) (eq-eqb t t refl) h) rows es
+      rise one (scan_rows_within range max cm) in
+      record {
+        has = gone.has;
+        only = λ p q h. gone.sweeps.others q (ap (λ b. (t == t) && b) h ∙ and-false (t == t)) p;
+        keeps = λ p q above old none. still_none gone.sweeps p q none;
+        undo = gone.undo;
+        describe = λ past notes u. (describe_laws t past es notes u).swept d (with_ghosts rows es)
+            (notes_of_ghosts rows es) gone.sweeps;
+        below = λ p q h. still_none gone.sweeps p q (empty_above p q (omega (arith, h)));
+        runs_noted = λ p h. absurd (both_ways (is_noted_run (notes_of_ghosts rows es) p) (gone.sweeps.no_run p) h);
+      }
 
   load_right : (pairs : Records) → is_rising pairs ≡ true → (o : Option OrderedKey) → least_taken pairs cm ≡ o →
       Right (Load pairs) (exists_or_done o)
@@ -404,8 +589,13 @@ module _ (gone : List Entry) (t runs : ℕ) (es : List Entry) (rise : IsRising e
   op_right (Get k) o plain = found_idle k (get cm k)
   op_right (Scan range max) o plain = idle t runs es rise one empty_above (Scan range max)
       (map_answer (Scan range max) cm) refl (λ q. refl)
+  op_right (ScanBack range max) o plain = idle t runs es rise one empty_above (ScanBack range max)
+      (map_answer (ScanBack range max) cm) refl (λ q. refl)
   op_right (Insert k v) o plain = insert_right k v (contains_key cm k) refl
   op_right (Replace k v) o plain = replace_right k v (contains_key cm k) refl
+  op_right (Set k v) o plain = set_right t runs es rise one empty_above k v
   op_right (Delete k) o plain = delete_right k (contains_key cm k) refl
+  op_right (DeleteRange range max) o plain = delete_range_right range max (length (scan_rows range max cm))
   op_right (Load pairs) o plain = load_right pairs o (least_taken pairs cm) refl
+  op_right (Put pairs) o plain = put_right pairs o
   op_right (TakeLock lock) o plain = idle t runs es rise one empty_above (TakeLock lock) Done refl (λ q. refl)

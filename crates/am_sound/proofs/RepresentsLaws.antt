@@ -27,7 +27,7 @@ use Rattle.am_undo.specs.Marks.{UndoesEach, AllPairs, SameOwned, MarkLaws}
 use Rattle.am_undo.specs.Marks as marks_of
 use Rattle.am_undo.proofs.TakeBacks.{undo_laws, nothing_undone}
 use Rattle.am_undo.proofs.NotesSinceMarks.{mark_laws}
-use Rattle.am_serial.specs.Trace.{Answered, Begins, Answers, Commits, Aborts, left_by_bodies, ops_of}
+use Rattle.am_serial.specs.Trace.{Answered, Begins, Answers, Commits, Aborts, left_by_bodies, ops_of, runs_made}
 use Rattle.am_serial.specs.Machine.{State, Transaction, start, is_open, view, locks_in, due, next, overlay_in, owns_in}
 use Rattle.am_serial.specs.Machine.{holds_in}
 use Rattle.am_serial.specs.Agreement.{AllAgree, AllHave}
@@ -156,6 +156,12 @@ module _ (s : State) (o : OverlayLaws s) (w : ViewLaws s) (st : StepLaws s) (es 
       by_op Back none = let on = (st.granted t Back none).is_active in any_is es (notes t) (owns_in s t) s.committed
           (length (notes t)) (marks t) (view s t).saved (at.undoes t on)
       by_op op none = plain op refl none
+
+  made_law : (t : ℕ) (op : Op) → due false s t op ≡ None → (reply : Reply) →
+      runs_made (view s t).map op reply ≡ runs_made (content es) op reply
+  made_law t Back none reply = refl
+  made_law t op none reply = (o.granted t op refl none).made reply ∙
+      ap (λ (m : PlainMap). runs_made m op reply) (sym at.has.same)
 
   -- ---- an operation is answered
 
@@ -475,6 +481,7 @@ module _ (s : State) (o : OverlayLaws s) (w : ViewLaws s) (st : StepLaws s) (es 
   pub goes_on : RepresentsNext s es notes marks
   goes_on = record {
     answered = answered_law;
+    made = made_law;
     done = done_law;
     marked = marked_law;
     backed = λ t es' none some b. backed_law t none es' some b;

@@ -294,7 +294,7 @@ module _ (s : Store) (o : OverlayLaws s.state) (w : ViewLaws s.state)
           own = r.undo;
         }),
         answers s.state w st s.entries s.past s.notes s.marks k t op reply (st.granted t op none) orderly es' new plain
-            r,
+            r (go.made t op none reply),
       )))
 
   here : (t : ℕ) (A : Type 0) (x y : A) → cond (t == t) x y ≡ x

@@ -18,7 +18,7 @@ use Rattle.am_undo.specs.Notes.{TakesBack}
 use Rattle.am_undo.specs.Undo.{is_noted_run, Undoes}
 use Rattle.am_record.specs.Marks.{since_mark, until_mark, older, has_mark}
 use Rattle.am_undo.specs.Marks.{UndoesEach}
-use Rattle.am_serial.specs.Trace.{Begins, Answers, Commits, Aborts}
+use Rattle.am_serial.specs.Trace.{runs_made, Begins, Answers, Commits, Aborts}
 use Rattle.am_serial.specs.Machine.{State, is_open, view, due, next, overlay_in, owns_in}
 use Rattle.am_effect.specs.Operations.{is_plain}
 
@@ -63,6 +63,9 @@ pub record RepresentsNext (s : State) (es : List Entry) (notes : ℕ → List No
   -- the answer is that of the content, and, for Back, whether a mark stands
   pub answered : (t : ℕ) (op : Op) → due false s t op ≡ None →
       answer op (view s t) ≡ stored_answer op (marks t) (content es)
+  -- and so are the runs that it makes
+  pub made : (t : ℕ) (op : Op) → due false s t op ≡ None → (reply : Reply) →
+      runs_made (view s t).map op reply ≡ runs_made (content es) op reply
   pub done : (t : ℕ) (op : Op) (es' : List Entry) (new : List Note) → due false s t op ≡ None → is_plain op ≡ true →
       Does es notes t op es' new →
       Represents (next s (Answers t op (answer op (view s t)))) es'

@@ -124,7 +124,7 @@ state_after_op p t op (Refused why) = p
 state_after_op p t op reply = record p {
   entries = changed (taken_back_to_mark p t) p.runs op reply p.entries;
   wishes = wishes_after p.wishes (Do t op) reply;
-  runs = p.runs + runs_made op reply;
+  runs = p.runs + runs_made (content p.entries) op reply;
   active = with_changed (λ (x : Active). x.number) (with_op op reply (noted p.runs op reply p.entries)) t p.active;
 }
 

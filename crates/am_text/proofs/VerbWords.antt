@@ -1,10 +1,11 @@
 -- The words of verbs: each verb has one, and no space stands in it.
-use Rattle.std.proofs.Common.{◌≡◌, ℕ, Bool, true, false, cond, List, [], ◌∷◌, Option, Some, None, refl, subst}
+use Rattle.std.proofs.Common.{◌≡◌, ℕ, Bool, true, false, cond, List, [], ◌∷◌, Option, Some, refl, subst}
 use Rattle.std.specs.Prelude.{bytes_eq, find, slice_get}
 use Rattle.std.proofs.lemmas.Slice.Eq.{bytes_eq-Decides}
-use Rattle.am_text.specs.Verbs.{word_of, verb_for, verbs}
+use Rattle.am_text.specs.Verbs.{word_of, verb_among, verb_for, verbs}
 use Rattle.am_text.specs.declared.verb.Verb.{Verb}
-use Rattle.am_text.specs.declared.verb.Verb.TheVariants.{Begin, Get, Insert, Replace, Delete}
+use Rattle.am_text.specs.declared.verb.Verb.TheVariants.{Begin, Get, Scan, ScanBack, Insert, Replace, Set}
+use Rattle.am_text.specs.declared.verb.Verb.TheVariants.{Delete, DeleteRange, Stage, Seen}
 use Rattle.am_text.specs.Fields.{has_no_space}
 
 pub verb_for-word_of : (verb : Verb) → verb_for (word_of verb) ≡ Some verb
@@ -38,20 +39,24 @@ pub with_letter : (word : List ℕ) (letter : ℕ) (P : List ℕ → Type 0) →
 with_letter [] letter P e h = absurd (cc)
 with_letter (b ∷ rest) letter P e h = let same : letter ≡ b = cc in subst (λ l. P (l ∷ rest)) same (h rest)
 
--- a verb whose letter no other begins with is told by it
+-- a word is sought among the verbs that begin with its letter
 module _ (rest : List ℕ) where
-  pub get_by_letter : verb_for (71 ∷ rest) ≡ cond (bytes_eq (word_of Get) (71 ∷ rest)) (Some Get) None
+  pub by_g : verb_for (71 ∷ rest) ≡ verb_among (Get ∷ []) (71 ∷ rest)
   unfolding verb_for
-  get_by_letter = refl
+  by_g = refl
 
-  pub insert_by_letter : verb_for (73 ∷ rest) ≡ cond (bytes_eq (word_of Insert) (73 ∷ rest)) (Some Insert) None
+  pub by_i : verb_for (73 ∷ rest) ≡ verb_among (Insert ∷ []) (73 ∷ rest)
   unfolding verb_for
-  insert_by_letter = refl
+  by_i = refl
 
-  pub replace_by_letter : verb_for (82 ∷ rest) ≡ cond (bytes_eq (word_of Replace) (82 ∷ rest)) (Some Replace) None
+  pub by_r : verb_for (82 ∷ rest) ≡ verb_among (ScanBack ∷ Replace ∷ []) (82 ∷ rest)
   unfolding verb_for
-  replace_by_letter = refl
+  by_r = refl
 
-  pub delete_by_letter : verb_for (68 ∷ rest) ≡ cond (bytes_eq (word_of Delete) (68 ∷ rest)) (Some Delete) None
+  pub by_s : verb_for (83 ∷ rest) ≡ verb_among (Scan ∷ Set ∷ Stage ∷ Seen ∷ []) (83 ∷ rest)
   unfolding verb_for
-  delete_by_letter = refl
+  by_s = refl
+
+  pub by_d : verb_for (68 ∷ rest) ≡ verb_among (Delete ∷ DeleteRange ∷ []) (68 ∷ rest)
+  unfolding verb_for
+  by_d = refl

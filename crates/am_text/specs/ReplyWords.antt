@@ -4,8 +4,9 @@ use Rattle.am_record.specs.declared.step.Refusal.{Refusal}
 use Rattle.am_record.specs.declared.step.Refusal.TheVariants as refusal
 use Rattle.am_text.specs.declared.reply_word.ReplyWord.{ReplyWord}
 use Rattle.am_text.specs.declared.reply_word.ReplyWord.TheVariants.{Begun, Done, Found, Absent, Rows, Exists, Missing}
-use Rattle.am_text.specs.declared.reply_word.ReplyWord.TheVariants.{Committed, Aborted, Moved, MergeDone, Ended, Idle}
-use Rattle.am_text.specs.declared.reply_word.ReplyWord.TheVariants.{Cleaned, NoMark, Busy, Error}
+use Rattle.am_text.specs.declared.reply_word.ReplyWord.TheVariants.{Deleted, Committed, Aborted, Moved, MergeDone}
+use Rattle.am_text.specs.declared.reply_word.ReplyWord.TheVariants.{Ended}
+use Rattle.am_text.specs.declared.reply_word.ReplyWord.TheVariants.{Idle, Cleaned, NoMark, Busy, Error}
 
 abbrev pub word_text : ReplyWord → List ℕ
 word_text Begun = codes "BEGUN"
@@ -15,6 +16,7 @@ word_text Absent = codes "NONE"
 word_text Rows = codes "ROWS"
 word_text Exists = codes "EXISTS"
 word_text Missing = codes "MISSING"
+word_text Deleted = codes "DELETED"
 word_text Committed = codes "COMMITTED"
 word_text Aborted = codes "ABORTED"
 word_text Moved = codes "MOVED"

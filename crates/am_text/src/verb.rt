@@ -1,7 +1,7 @@
 //! The verbs of lines.
 
-ghost use Rattle.std.specs.Prelude.{◌≡◌, Some, None, cond, bytes_eq};
-ghost use Rattle.am_text.specs.Verbs.{word_of, verb_for};
+ghost use Rattle.std.specs.Prelude.{◌≡◌};
+ghost use Rattle.am_text.specs.Verbs.{word_of, verb_among, verb_for};
 
 /// What a line asks for, by its first word.
 #[derive(Clone, Copy, PartialEq, Eq)]
@@ -9,10 +9,14 @@ pub enum Verb {
     Begin,
     Get,
     Scan,
+    ScanBack,
     Insert,
     Replace,
+    Set,
     Delete,
+    DeleteRange,
     Load,
+    Put,
     Stage,
     Lock,
     Mark,
@@ -28,14 +32,18 @@ pub enum Verb {
     Quit,
 }
 
-const VERBS: [Verb; 20] = [
+const VERBS: [Verb; 24] = [
     Verb::Begin,
     Verb::Get,
     Verb::Scan,
+    Verb::ScanBack,
     Verb::Insert,
     Verb::Replace,
+    Verb::Set,
     Verb::Delete,
+    Verb::DeleteRange,
     Verb::Load,
+    Verb::Put,
     Verb::Stage,
     Verb::Lock,
     Verb::Mark,
@@ -60,10 +68,14 @@ impl Verb {
             Verb::Begin => b"BEGIN",
             Verb::Get => b"GET",
             Verb::Scan => b"SCAN",
+            Verb::ScanBack => b"RSCAN",
             Verb::Insert => b"INS",
             Verb::Replace => b"REP",
+            Verb::Set => b"SET",
             Verb::Delete => b"DEL",
+            Verb::DeleteRange => b"DELR",
             Verb::Load => b"LOAD",
+            Verb::Put => b"PUT",
             Verb::Stage => b"STAGE",
             Verb::Lock => b"LOCK",
             Verb::Mark => b"MARK",
@@ -80,34 +92,24 @@ impl Verb {
         }
     }
 
-    /// The verb of the word. Those that come most often are told by their letters, which no others begin with.
+    /// The verb of the word. Those that come most often are sought among the few with their letter.
     pub fn of_word(word: &[u8]) -> Option<Verb>
         ensures { result ≡ verb_for word.now }
     {
         match word.first() {
-            Some(b'G') => told(Verb::Get, word),
-            Some(b'I') => told(Verb::Insert, word),
-            Some(b'R') => told(Verb::Replace, word),
-            Some(b'D') => told(Verb::Delete, word),
-            _ => find(word),
+            Some(b'G') => find(&[Verb::Get], word),
+            Some(b'I') => find(&[Verb::Insert], word),
+            Some(b'R') => find(&[Verb::ScanBack, Verb::Replace], word),
+            Some(b'S') => find(&[Verb::Scan, Verb::Set, Verb::Stage, Verb::Seen], word),
+            Some(b'D') => find(&[Verb::Delete, Verb::DeleteRange], word),
+            _ => find(&VERBS, word),
         }
     }
 }
 
-// The verb of the word, found among all.
-fn find(word: &[u8]) -> Option<Verb>
-    ensures { result ≡ verb_for word.now }
+// The one of the verbs that has the word.
+fn find(verbs: &[Verb], word: &[u8]) -> Option<Verb>
+    ensures { result ≡ verb_among verbs.now word.now }
 {
-    VERBS.iter().copied().find(|verb| verb.word() == word)
-}
-
-// The verb, where the word is its own.
-fn told(verb: Verb, word: &[u8]) -> Option<Verb>
-    ensures { result ≡ cond (bytes_eq (word_of verb) word.now) (Some verb) None }
-{
-    if verb.word() == word {
-        Some(verb)
-    } else {
-        None
-    }
+    verbs.iter().copied().find(|verb| verb.word() == word)
 }

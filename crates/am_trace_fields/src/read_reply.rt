@@ -4,7 +4,7 @@ ghost use Rattle.std.specs.Prelude.{◌≡◌, option_map};
 ghost use Rattle.am_trace_text.specs.FieldReadings.{nothing_in, small_reply_in, reply_of, reply_in, IsReadAs};
 
 use crate::shape::{
-    next, read_counted_records, read_key, read_key_and_number, read_nothing, read_number,
+    next, of_three, read_counted_records, read_key, read_key_and_number, read_nothing, read_number,
     read_number_and_run, read_refusal, read_savepoint, read_value,
 };
 use crate::word::word_for;
@@ -57,6 +57,7 @@ fn read_small_reply(version: Version, word: ReplyWord, fields: Fields<'_>) -> Op
             let (key, holder) = read_key_and_number(version, fields)?;
             Some(Reply::Ended(key, holder))
         }
+        ReplyWord::Deleted => Some(Reply::Deleted(of_three(version, read_number(fields))?)),
         ReplyWord::Cleaned => Some(Reply::Cleaned(read_number(fields)?)),
         ReplyWord::Busy => Some(Reply::Refused(Refusal::Busy(read_number(fields)?))),
         ReplyWord::Error => Some(Reply::Refused(read_refusal(fields)?)),

@@ -5,8 +5,8 @@ ghost use Rattle.am_trace_text.specs.FieldReadings.{IsReadAs};
 ghost use Rattle.am_trace_text.specs.Steps.{small_op_in, op_in, do_in, step_of, step_in};
 
 use crate::shape::{
-    next, number, read_key, read_key_and_value, read_lock, read_nothing, read_number,
-    read_range_and_number, read_records, read_savepoint,
+    next, number, of_three, read_key, read_key_and_value, read_lock, read_nothing, read_number,
+    read_range_and_number, read_records, read_records_of_three, read_savepoint,
 };
 use am_record::{Op, Step};
 use am_text::{Fields, Verb};
@@ -71,6 +71,7 @@ fn read_op(alloc: Global, version: Version, verb: Verb, fields: Fields<'_>) -> R
 {
     match verb {
         Verb::Load => Ok(Op::Load(read_records(alloc, version, fields)?)),
+        Verb::Put => Ok(Op::Put(read_records_of_three(alloc, version, fields)?)),
         _ => read_small_op(version, verb, fields).ok_or(ReadFault::Bad),
     }
 }
@@ -86,6 +87,10 @@ fn read_small_op(version: Version, verb: Verb, fields: Fields<'_>) -> Option<Op>
             let (range, max) = read_range_and_number(version, fields)?;
             Some(Op::Scan(range, max))
         }
+        Verb::ScanBack => {
+            let (range, max) = of_three(version, read_range_and_number(version, fields))?;
+            Some(Op::ScanBack(range, max))
+        }
         Verb::Insert => {
             let (key, value) = read_key_and_value(version, fields)?;
             Some(Op::Insert(key, value))
@@ -93,6 +98,14 @@ fn read_small_op(version: Version, verb: Verb, fields: Fields<'_>) -> Option<Op>
         Verb::Replace => {
             let (key, value) = read_key_and_value(version, fields)?;
             Some(Op::Replace(key, value))
+        }
+        Verb::Set => {
+            let (key, value) = of_three(version, read_key_and_value(version, fields))?;
+            Some(Op::Set(key, value))
+        }
+        Verb::DeleteRange => {
+            let (range, max) = of_three(version, read_range_and_number(version, fields))?;
+            Some(Op::DeleteRange(range, max))
         }
         Verb::Lock => Some(Op::Lock(read_lock(version, fields)?)),
         Verb::Mark => {

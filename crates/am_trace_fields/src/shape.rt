@@ -3,7 +3,7 @@
 ghost use Rattle.std.specs.Prelude.{◌≡◌, ◌∷◌, [], option_map, MatchOption};
 ghost use Rattle.am_trace_text.specs.FieldReadings.{number_in, run_in};
 ghost use Rattle.am_trace_text.specs.FieldReadings.{value_for_digits, key_in, value_in};
-ghost use Rattle.am_trace_text.specs.FieldReadings.{record_in, range_in, nothing_in, savepoint_in};
+ghost use Rattle.am_trace_text.specs.FieldReadings.{record_in, range_in, nothing_in, savepoint_in, in_three};
 ghost use Rattle.am_trace_text.specs.FieldReadings.{one_number_in, one_key_in, key_and_value_in};
 ghost use Rattle.am_trace_text.specs.FieldReadings.{one_value_in, range_and_number_in};
 ghost use Rattle.am_trace_text.specs.FieldReadings.{lock_fields_in, records_of_fields};
@@ -40,6 +40,16 @@ pub(crate) fn read_savepoint(version: Version, fields: Fields<'_>) -> Option<()>
     match version {
         Version::One => None,
         Version::Two | Version::Three => read_nothing(fields),
+    }
+}
+
+/// What was read, where the version is the third, which alone knows it.
+pub(crate) fn of_three<T: Drop>(version: Version, read: Option<T>) -> Option<T>
+    ensures { result ≡ in_three version read }
+{
+    match version {
+        Version::One | Version::Two => None,
+        Version::Three => read,
     }
 }
 
@@ -238,6 +248,20 @@ pub(crate) fn read_records(
         }
     }
     Ok(Records::new(items))
+}
+
+/// Records, where the version is the third.
+pub(crate) fn read_records_of_three(
+    alloc: Global,
+    version: Version,
+    fields: Fields<'_>,
+) -> Result<Records, ReadFault>
+    ensures { IsReadAs (in_three version (records_of_fields version fields.entry)) result }
+{
+    match version {
+        Version::One | Version::Two => Err(ReadFault::Bad),
+        Version::Three => read_records(alloc, version, fields),
+    }
 }
 
 /// Records, and before them their number.

@@ -7,7 +7,7 @@ ghost use Rattle.am_trace_text.specs.FieldReadings.{refusal_for, word_for};
 use am_record::Refusal;
 use am_text::{ReplyWord, refusal_code};
 
-const WORDS: [ReplyWord; 17] = [
+const WORDS: [ReplyWord; 18] = [
     ReplyWord::Begun,
     ReplyWord::Done,
     ReplyWord::Found,
@@ -15,6 +15,7 @@ const WORDS: [ReplyWord; 17] = [
     ReplyWord::Rows,
     ReplyWord::Exists,
     ReplyWord::Missing,
+    ReplyWord::Deleted,
     ReplyWord::Committed,
     ReplyWord::Aborted,
     ReplyWord::Moved,

@@ -1,8 +1,10 @@
 //! The file that gets the trace.
 
+ghost use Rattle.std.specs.Prelude.{◌≡◌, is_some};
+
 use crate::fault::ListenFault;
 use std::fs::{File, Metadata, OpenFile, OpenOptions};
-use std::io::ErrorKind;
+use std::io::{ErrorKind, Write};
 use std::rt::Files;
 use std::{fs, io};
 
@@ -101,6 +103,31 @@ impl TraceFile {
         }
     }
 
+    /// Whether it gets its name at the end, and its first line may be written once more until then.
+    pub fn is_beside(&self) -> bool
+        ensures { result ≡ is_some self.now.part }
+    {
+        self.part.is_some()
+    }
+
+    /// Writes the first line once more, over one as long, where the file hasn't its name yet.
+    ///
+    /// # Errors
+    /// CannotWriteTrace, where the system refuses it; nothing is left beside the file then.
+    pub fn mend_first_line<R: Files<File = File>>(
+        &self,
+        rt: &R,
+        line: &[u8],
+    ) -> Result<(), ListenFault> {
+        let Some(name) = &self.part else {
+            return Ok(());
+        };
+        write_over(rt, name.as_str(), line).map_err(|why| {
+            self.forget(rt);
+            ListenFault::CannotWriteTrace(Some(why))
+        })
+    }
+
     /// Gives what was written the file's name. Where that can't be done, the file is as it was. In a frame of its own:
     /// the two names take 8 KB.
     ///
@@ -128,6 +155,12 @@ impl TraceFile {
 // The file itself, which needn't be there yet.
 fn grow<R: Files<File = File>>(rt: &R, path: &str) -> io::Result<File> {
     OpenOptions::new().write(true).create(true).open(rt, path)
+}
+
+// Writes bytes over the first of a file.
+fn write_over<R: Files<File = File>>(rt: &R, path: &str, bytes: &[u8]) -> io::Result<()> {
+    let mut file = OpenOptions::new().write(true).open(rt, path)?;
+    file.write_all(bytes)
 }
 
 // A name beside the path: the first one with no number.

@@ -49,8 +49,8 @@ impl Field {
 
     /// A key.
     pub(crate) fn key(key: Key) -> Field
-        ensures text { result ≡ key_word Version.Two key }
-        ensures key { IsKey Version.Two key }
+        ensures text { result ≡ key_word Version.Three key }
+        ensures key { IsKey Version.Three key }
     {
         Field::new(b"").then_hex(key.bytes())
     }
@@ -65,8 +65,8 @@ impl Field {
 
     /// A record.
     pub(crate) fn record(pair: &(Key, Value)) -> Field
-        ensures text { result ≡ record_word Version.Two pair.now }
-        ensures pair { IsRecord Version.Two pair.now }
+        ensures text { result ≡ record_word Version.Three pair.now }
+        ensures pair { IsRecord Version.Three pair.now }
     {
         Field::new(b"")
             .then_hex(pair.0.bytes())

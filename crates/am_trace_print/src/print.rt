@@ -67,8 +67,9 @@ impl Page {
 
     // Writes records, each behind a space.
     fn put_records(&mut self, records: &[(Key, Value)]) -> Result<(), NoMemory>
-        ensures text { OnOk result (self.new ≡ self.old ++ flat_map (λ r. 32 ∷ record_word Version.Two r) records.now) }
-        ensures records { OnOk result (AreRecords Version.Two records.now) }
+        ensures text { OnOk result (self.new ≡
+            self.old ++ flat_map (λ r. 32 ∷ record_word Version.Three r) records.now) }
+        ensures records { OnOk result (AreRecords Version.Three records.now) }
     {
         for pair in records {
             self.put(b" ")?;
@@ -93,8 +94,8 @@ impl Page {
         records: &[(Key, Value)],
     ) -> Result<(), NoMemory>
         ensures text { OnOk result (self.new ≡ self.old ++
-            join_with_byte 32 (word.now ∷ (fields.now ++ map (record_word Version.Two) records.now))) }
-        ensures records { OnOk result (AreRecords Version.Two records.now) }
+            join_with_byte 32 (word.now ∷ (fields.now ++ map (record_word Version.Three) records.now))) }
+        ensures records { OnOk result (AreRecords Version.Three records.now) }
     {
         self.put_fields(word, fields)?;
         self.put_records(records)
@@ -125,8 +126,8 @@ impl Page {
 
     /// Writes a reply.
     pub(crate) fn put_reply(&mut self, reply: &Reply) -> Result<(), NoMemory>
-        ensures text { OnOk result (self.new ≡ self.old ++ reply_words Version.Two reply.now) }
-        ensures reply { OnOk result (reply.now ≢ Reply.Refused FullSeat → IsReply Version.Two reply.now) }
+        ensures text { OnOk result (self.new ≡ self.old ++ reply_words Version.Three reply.now) }
+        ensures reply { OnOk result (reply.now ≢ Reply.Refused FullSeat → IsReply Version.Three reply.now) }
     {
         match reply {
             Reply::Begun(tx) => self.put_fields(ReplyWord::Begun.text(), &[Field::number(*tx)]),
@@ -143,6 +144,7 @@ impl Page {
             }
             Reply::Exists(key) => self.put_fields(ReplyWord::Exists.text(), &[Field::key(*key)]),
             Reply::Missing => self.put(ReplyWord::Missing.text()),
+            Reply::Deleted(n) => self.put_fields(ReplyWord::Deleted.text(), &[Field::number(*n)]),
             Reply::Committed(commit) => {
                 self.put_fields(ReplyWord::Committed.text(), &[Field::number(*commit)])
             }
@@ -165,8 +167,8 @@ impl Page {
 
     /// Writes a line: a step with its reply.
     pub(crate) fn put_event(&mut self, step: &Step, reply: &Reply) -> Result<(), NoMemory>
-        ensures text { OnOk result (self.new ≡ self.old ++ with_lf (event_words Version.Two (step.now, reply.now))) }
-        ensures event { OnOk result (reply.now ≢ Reply.Refused FullSeat → IsEvent Version.Two (step.now, reply.now)) }
+        ensures text { OnOk result (self.new ≡ self.old ++ with_lf (event_words Version.Three (step.now, reply.now))) }
+        ensures event { OnOk result (reply.now ≢ Reply.Refused FullSeat → IsEvent Version.Three (step.now, reply.now)) }
     {
         self.put_step(step)?;
         self.put(b" | ")?;

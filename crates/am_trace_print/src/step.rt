@@ -14,26 +14,31 @@ use am_trace_text::Version;
 
 impl Page {
     fn put_op(&mut self, tx: u64, op: &Op) -> Result<(), NoMemory>
-        ensures text { OnOk result (self.new ≡ self.old ++ join_with_byte 32 (op_fields Version.Two tx op.now)) }
-        ensures op { OnOk result (IsStep Version.Two (Step.Do tx op.now)) }
+        ensures text { OnOk result (self.new ≡ self.old ++ join_with_byte 32 (op_fields Version.Three tx op.now)) }
+        ensures op { OnOk result (IsStep Version.Three (Step.Do tx op.now)) }
     {
         let word = verb_of(op).word();
         let tx = Field::number(tx);
         match op {
             Op::Get(key) | Op::Delete(key) => self.put_fields(word, &[tx, Field::key(*key)]),
-            Op::Scan(range, max) => self.put_fields(
-                word,
-                &[
-                    tx,
-                    Field::key(range.lo()),
-                    Field::key(range.hi()),
-                    Field::number(*max),
-                ],
-            ),
-            Op::Insert(key, value) | Op::Replace(key, value) => {
+            Op::Scan(range, max) | Op::ScanBack(range, max) | Op::DeleteRange(range, max) =>
+                self.put_fields(
+                    word,
+                    &[
+                        tx,
+                        Field::key(range.lo()),
+                        Field::key(range.hi()),
+                        Field::number(*max),
+                    ],
+                ),
+            Op::Insert(key, value) | Op::Replace(key, value) | Op::Set(key, value) => {
                 self.put_fields(word, &[tx, Field::key(*key), Field::value(*value)])
             }
-            Op::Load(pairs) => self.put_with_records(word, &[tx], pairs.as_slice()),
+            Op::Load(pairs) | Op::Put(pairs) => self.put_with_records(
+                word,
+                &[tx],
+                pairs.as_slice(),
+            ),
             Op::Lock(lock) => self.put_fields(
                 word,
                 &[
@@ -49,8 +54,8 @@ impl Page {
 
     /// Writes a step.
     pub(crate) fn put_step(&mut self, step: &Step) -> Result<(), NoMemory>
-        ensures text { OnOk result (self.new ≡ self.old ++ step_words Version.Two step.now) }
-        ensures step { OnOk result (IsStep Version.Two step.now) }
+        ensures text { OnOk result (self.new ≡ self.old ++ step_words Version.Three step.now) }
+        ensures step { OnOk result (IsStep Version.Three step.now) }
     {
         match step {
             Step::Begin => self.put_fields(Verb::Begin.word(), &[]),
@@ -77,10 +82,14 @@ fn verb_of(op: &Op) -> Verb
     match op {
         Op::Get(_) => Verb::Get,
         Op::Scan(_, _) => Verb::Scan,
+        Op::ScanBack(_, _) => Verb::ScanBack,
         Op::Insert(_, _) => Verb::Insert,
         Op::Replace(_, _) => Verb::Replace,
+        Op::Set(_, _) => Verb::Set,
         Op::Delete(_) => Verb::Delete,
+        Op::DeleteRange(_, _) => Verb::DeleteRange,
         Op::Load(_) => Verb::Load,
+        Op::Put(_) => Verb::Put,
         Op::Lock(_) => Verb::Lock,
         Op::Mark => Verb::Mark,
         Op::Back => Verb::Back,

@@ -62,6 +62,7 @@ module _ (laws : WordLaws) (c : ℕ) (n : IsNoDigit c) (other : eqb 61 c ≡ fal
       (letters (codes "ROWS") refl, (number (length rs) h.1, no_in_records laws.numbers c v rs n other h.0))
   reply_none v (reply.Exists k) h = (letters (codes "EXISTS") refl, (no_in_key laws.numbers c v k n h, tt))
   reply_none v reply.Missing h = (letters (codes "MISSING") refl, tt)
+  reply_none v (reply.Deleted m) h = (letters (codes "DELETED") refl, (number m h.1, tt))
   reply_none v (reply.Committed m) h = (letters (codes "COMMITTED") refl, (number m h, tt))
   reply_none v reply.Aborted h = (letters (codes "ABORTED") refl, tt)
   reply_none v (reply.Moved m run) h = let small : run < 2 ^ 32 = h.1 in
@@ -127,6 +128,7 @@ module _ (laws : LineLaws) where
   reply_has v (reply.Rows rs) = (codes "ROWS", decimal (length rs) ∷ map (record_word v) rs, refl)
   reply_has v (reply.Exists k) = (codes "EXISTS", key_word v k ∷ [], refl)
   reply_has v reply.Missing = (codes "MISSING", [], refl)
+  reply_has v (reply.Deleted m) = (codes "DELETED", decimal m ∷ [], refl)
   reply_has v (reply.Committed m) = (codes "COMMITTED", decimal m ∷ [], refl)
   reply_has v reply.Aborted = (codes "ABORTED", [], refl)
   reply_has v (reply.Moved m run) = (codes "MOVED", decimal m ∷ decimal run ∷ [], refl)

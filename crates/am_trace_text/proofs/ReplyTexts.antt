@@ -24,13 +24,13 @@ use Rattle.am_trace_text.specs.FieldReadings.{one_number_in}
 use Rattle.am_trace_text.specs.FieldReadings.{one_key_in, one_value_in, key_and_number_in, number_and_run_in}
 use Rattle.am_trace_text.specs.FieldReadings.{if_counted}
 use Rattle.am_trace_text.specs.FieldReadings.{counted_records_in, refusal_for, coded_refusals, refusal_read, word_for}
-use Rattle.am_trace_text.specs.FieldReadings.{savepoint_in, reply_of, reply_with, reply_in}
+use Rattle.am_trace_text.specs.FieldReadings.{savepoint_in, in_three, reply_of, reply_with, reply_in}
 use Rattle.am_trace_text.specs.declared.version.Version.{Version}
 use Rattle.am_trace_text.proofs.IsText.{IsText, zipped, zip_of, chained, same_some, one_field, two_fields}
 use Rattle.am_trace_text.proofs.FieldTexts.{number_text, run_text, key_text, value_text}
 use Rattle.am_trace_text.proofs.WordTexts.{word_for-word_text, word_text-word_for, refusal_for-code}
 use Rattle.am_trace_text.proofs.StepTexts.{WordLaws, one_number, one_key, records, nothing_back, savepoint_back}
-use Rattle.am_trace_text.proofs.StepTexts.{savepoint_there}
+use Rattle.am_trace_text.proofs.StepTexts.{savepoint_there, in_three_there, in_three_back}
 
 -- ---- refusals
 
@@ -108,6 +108,8 @@ module _ (laws : WordLaws) where
       ap (option_map reply.Begun) ((one_number laws).there n h)
   reply_there v (reply.Committed n) h = by_word v word.Committed (decimal n ∷ []) ∙
       ap (option_map reply.Committed) ((one_number laws).there n h)
+  reply_there v (reply.Deleted n) h = by_word v word.Deleted (decimal n ∷ []) ∙ ap (option_map reply.Deleted)
+      (in_three_there laws v (one_number_in (decimal n ∷ [])) n h.0 ((one_number laws).there n h.1))
   reply_there v (reply.Cleaned n) h = by_word v word.Cleaned (decimal n ∷ []) ∙
       ap (option_map reply.Cleaned) ((one_number laws).there n h)
   reply_there v reply.Done h = by_word v word.Done []
@@ -154,6 +156,10 @@ module _ (laws : WordLaws) where
   of_back v word.Cleaned fs r e = let m = mapped reply.Cleaned (one_number_in fs) r e in
       let b = (one_number laws).back fs m.0 m.1 in subst (IsReplyOf v word.Cleaned fs) m.2
       (b.0, ap (λ (xs : List (List ℕ)). word_text word.Cleaned ∷ xs) b.1)
+  of_back v word.Deleted fs r e = let m = mapped reply.Deleted (in_three v (one_number_in fs)) r e in
+      let k = in_three_back laws v (one_number_in fs) m.0 m.1 in
+      let b = (one_number laws).back fs m.0 k.1 in subst (IsReplyOf v word.Deleted fs) m.2
+      ((k.0, b.0), ap (λ (xs : List (List ℕ)). word_text word.Deleted ∷ xs) b.1)
   of_back v word.Done fs r e = let m = mapped (λ _. reply.Done) (nothing_in fs) r e in
       subst (IsReplyOf v word.Done fs) m.2 (
         tt,

@@ -23,14 +23,14 @@ use Rattle.am_text.specs.declared.verb.Verb.TheVariants as verb
 use Rattle.am_trace_text.specs.Cuts.{has_no}
 use Rattle.am_trace_text.specs.Words.{hex, key_word, record_word}
 use Rattle.am_trace_text.specs.Bounds.{IsNumber, IsKey, IsValue, IsRecord, AreRecords, IsRange}
-use Rattle.am_trace_text.specs.Steps.{verb_of, argument_fields, step_fields, IsOp, IsStep, HasSavepoints}
+use Rattle.am_trace_text.specs.Steps.{verb_of, argument_fields, step_fields, IsOp, IsStep, HasSavepoints, KnowsAllOps}
 use Rattle.am_trace_text.specs.Steps.{op_in, do_in, step_of, step_with, step_in}
 use Rattle.am_trace_text.specs.FieldReadings.{number_in, key_in, value_in, record_in, range_in, nothing_in}
 use Rattle.am_trace_text.specs.FieldReadings.{one_key_in, key_and_value_in, range_and_number_in, lock_fields_in}
 use Rattle.am_trace_text.specs.FieldReadings.{lock_of_parts, one_number_in}
-use Rattle.am_trace_text.specs.FieldReadings.{records_of_fields, with_record, savepoint_in}
+use Rattle.am_trace_text.specs.FieldReadings.{records_of_fields, with_record, savepoint_in, in_three}
 use Rattle.am_trace_text.specs.declared.version.Version.{Version}
-use Rattle.am_trace_text.specs.declared.version.Version.TheVariants.{One}
+use Rattle.am_trace_text.specs.declared.version.Version.TheVariants.{One, Two, Three}
 use Rattle.am_trace_text.proofs.IsText.{IsText, zipped, zip_of, chained, same_some, one_field, two_fields}
 use Rattle.am_trace_text.proofs.FieldTexts.{NumberLaws, number_text, key_text, value_text, record_text}
 use Rattle.am_trace_text.proofs.FieldTexts.{IsNoDigit, AllHaveNo, is_letter, no_in_letters, no_in_hex, no_in_decimal}
@@ -173,16 +173,39 @@ module _ (laws : WordLaws) where
 
   -- ---- operations
 
+  pub in_three_there : {A : Type 0} (v : Version) (o : Option A) (a : A) → KnowsAllOps v → o ≡ Some a →
+      in_three v o ≡ Some a
+  in_three_there One o a h e = absurd h
+  in_three_there Two o a h e = absurd h
+  in_three_there Three o a h e = e
+
+  pub in_three_back : {A : Type 0} (v : Version) (o : Option A) (a : A) → in_three v o ≡ Some a →
+      KnowsAllOps v × (o ≡ Some a)
+  in_three_back One o a e = cc
+  in_three_back Two o a e = cc
+  in_three_back Three o a e = (tt, e)
+
   op_there : (v : Version) (o : Op) → IsOp v o → op_in v (verb_of o) (argument_fields v o) ≡ Some o
   op_there v (op.Get k) h = ap (option_map op.Get) ((one_key v).there k h)
   op_there v (op.Scan r max) h = ap (option_map (λ (p : Interval × ℕ). op.Scan p.0 p.1))
       ((range_and_number v).there (r, max) h)
+  op_there v (op.ScanBack r max) h = ap (option_map (λ (p : Interval × ℕ). op.ScanBack p.0 p.1))
+      (in_three_there v (range_and_number_in v (argument_fields v (op.ScanBack r max))) (r, max) h.0
+      ((range_and_number v).there (r, max) h.1))
   op_there v (op.Insert k w) h = ap (option_map (λ (r : OrderedKey × List ℕ). op.Insert r.0 r.1))
       ((key_and_value v).there (k, w) h)
   op_there v (op.Replace k w) h = ap (option_map (λ (r : OrderedKey × List ℕ). op.Replace r.0 r.1))
       ((key_and_value v).there (k, w) h)
+  op_there v (op.Set k w) h = ap (option_map (λ (r : OrderedKey × List ℕ). op.Set r.0 r.1))
+      (in_three_there v (key_and_value_in v (argument_fields v (op.Set k w))) (k, w) h.0
+      ((key_and_value v).there (k, w) h.1))
+  op_there v (op.DeleteRange r max) h = ap (option_map (λ (p : Interval × ℕ). op.DeleteRange p.0 p.1))
+      (in_three_there v (range_and_number_in v (argument_fields v (op.DeleteRange r max))) (r, max) h.0
+      ((range_and_number v).there (r, max) h.1))
   op_there v (op.Delete k) h = ap (option_map op.Delete) ((one_key v).there k h)
   op_there v (op.Load rs) h = ap (option_map op.Load) (records_there v rs h)
+  op_there v (op.Put rs) h = ap (option_map op.Put)
+      (in_three_there v (records_of_fields v (argument_fields v (op.Put rs))) rs h.0 (records_there v rs h.1))
   op_there v (op.Lock lock) h = ap (option_map op.Lock) ((lock_fields v).there lock h)
   op_there v op.Mark h = ap (option_map (λ _. op.Mark)) (savepoint_there v h)
   op_there v op.Back h = ap (option_map (λ _. op.Back)) (savepoint_there v h)
@@ -203,8 +226,28 @@ module _ (laws : WordLaws) where
   op_back v verb.Replace fs o e = let m = mapped (λ (r : OrderedKey × List ℕ). op.Replace r.0 r.1)
       (key_and_value_in v fs) o e in let b = (key_and_value v).back fs m.0 m.1 in
       subst (IsOpOf v verb.Replace fs) m.2 (refl, b)
+  op_back v verb.ScanBack fs o e =
+      let m = mapped (λ (p : Interval × ℕ). op.ScanBack p.0 p.1) (in_three v (range_and_number_in v fs)) o e in
+      let k = in_three_back v (range_and_number_in v fs) m.0 m.1 in
+      let b = (range_and_number v).back fs m.0 k.1 in
+      subst (IsOpOf v verb.ScanBack fs) m.2 (refl, ((k.0, b.0), b.1))
+  op_back v verb.Set fs o e =
+      let m = mapped (λ (r : OrderedKey × List ℕ). op.Set r.0 r.1) (in_three v (key_and_value_in v fs)) o e in
+      let k = in_three_back v (key_and_value_in v fs) m.0 m.1 in
+      let b = (key_and_value v).back fs m.0 k.1 in
+      subst (IsOpOf v verb.Set fs) m.2 (refl, ((k.0, b.0), b.1))
+  op_back v verb.DeleteRange fs o e =
+      let m = mapped (λ (p : Interval × ℕ). op.DeleteRange p.0 p.1) (in_three v (range_and_number_in v fs)) o e in
+      let k = in_three_back v (range_and_number_in v fs) m.0 m.1 in
+      let b = (range_and_number v).back fs m.0 k.1 in
+      subst (IsOpOf v verb.DeleteRange fs) m.2 (refl, ((k.0, b.0), b.1))
   op_back v verb.Load fs o e = let m = mapped op.Load (records_of_fields v fs) o e in let b = records_back v fs m.0 m.1
       in subst (IsOpOf v verb.Load fs) m.2 (refl, b)
+  op_back v verb.Put fs o e =
+      let m = mapped op.Put (in_three v (records_of_fields v fs)) o e in
+      let k = in_three_back v (records_of_fields v fs) m.0 m.1 in
+      let b = records_back v fs m.0 k.1 in
+      subst (IsOpOf v verb.Put fs) m.2 (refl, ((k.0, b.0), b.1))
   op_back v verb.Lock fs o e = let m = mapped op.Lock (lock_fields_in v fs) o e in
       let b = (lock_fields v).back fs m.0 m.1 in subst (IsOpOf v verb.Lock fs) m.2 (refl, b)
   op_back v verb.Mark fs o e = let m = mapped (λ _. op.Mark) (savepoint_in v fs) o e in
@@ -304,10 +347,14 @@ module _ (laws : WordLaws) (c : ℕ) (n : IsNoDigit c) (other : eqb 61 c ≡ fal
   arguments_none : (v : Version) (o : Op) → IsOp v o → AllHaveNo c (argument_fields v o)
   arguments_none v (op.Get k) h = (key v k h, tt)
   arguments_none v (op.Scan r max) h = range_and_number_none v r max h
+  arguments_none v (op.ScanBack r max) h = range_and_number_none v r max h.1
   arguments_none v (op.Insert k w) h = (key v k h.0, (no_in_hex c w n h.1.0, tt))
   arguments_none v (op.Replace k w) h = (key v k h.0, (no_in_hex c w n h.1.0, tt))
+  arguments_none v (op.Set k w) h = (key v k h.1.0, (no_in_hex c w n h.1.1.0, tt))
+  arguments_none v (op.DeleteRange r max) h = range_and_number_none v r max h.1
   arguments_none v (op.Delete k) h = (key v k h, tt)
   arguments_none v (op.Load rs) h = no_in_records laws.numbers c v rs n other h
+  arguments_none v (op.Put rs) h = no_in_records laws.numbers c v rs n other h.1
   arguments_none v (op.Lock lock) h = (
     mode_none lock.mode,
     (key v lock.range.lo h.0.0, (key v lock.range.hi h.0.1, tt)),

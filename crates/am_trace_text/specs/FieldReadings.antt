@@ -21,7 +21,7 @@ use Rattle.am_text.specs.ReplyWords.{word_text, refusal_code}
 use Rattle.am_text.specs.declared.reply_word.ReplyWord.{ReplyWord}
 use Rattle.am_text.specs.declared.reply_word.ReplyWord.TheVariants as word
 use Rattle.am_trace_text.specs.declared.version.Version.{Version}
-use Rattle.am_trace_text.specs.declared.version.Version.TheVariants.{One}
+use Rattle.am_trace_text.specs.declared.version.Version.TheVariants.{One, Three}
 use Rattle.am_trace_text.specs.declared.read.ReadFault.{ReadFault}
 use Rattle.am_trace_text.specs.declared.read.ReadFault.TheVariants.{Bad, NoMemory}
 
@@ -80,6 +80,11 @@ nothing_in fs = None
 abbrev pub savepoint_in : Version → List (List ℕ) → Option (Unit {0})
 savepoint_in One fs = None
 savepoint_in _ fs = nothing_in fs
+
+-- what only version 3 knows
+abbrev pub in_three : {A : Type 0} → Version → Option A → Option A
+in_three Three o = o
+in_three _ o = None
 
 -- the field, where there is just one; the two, and the three
 abbrev pub one_of : List (List ℕ) → Option (List ℕ)
@@ -167,8 +172,8 @@ refusal_read fs = field_in refusal_for fs
 
 abbrev pub all_words : List ReplyWord
 all_words = word.Begun ∷ word.Done ∷ word.Found ∷ word.Absent ∷ word.Rows ∷ word.Exists ∷ word.Missing ∷
-    word.Committed ∷ word.Aborted ∷ word.Moved ∷ word.MergeDone ∷ word.Ended ∷ word.Idle ∷ word.Cleaned ∷
-    word.NoMark ∷ word.Busy ∷ word.Error ∷ []
+    word.Deleted ∷ word.Committed ∷ word.Aborted ∷ word.Moved ∷ word.MergeDone ∷ word.Ended ∷ word.Idle ∷
+    word.Cleaned ∷ word.NoMark ∷ word.Busy ∷ word.Error ∷ []
 
 -- the word of a text
 unfoldable pub word_for : List ℕ → Option ReplyWord
@@ -192,6 +197,7 @@ small_reply_in v word.Missing fs = option_map (λ _. reply.Missing) (nothing_in 
 small_reply_in v word.Aborted fs = option_map (λ _. reply.Aborted) (nothing_in fs)
 small_reply_in v word.MergeDone fs = option_map (λ _. reply.MergeDone) (nothing_in fs)
 small_reply_in v word.Idle fs = option_map (λ _. reply.Idle) (nothing_in fs)
+small_reply_in v word.Deleted fs = option_map reply.Deleted (in_three v (one_number_in fs))
 small_reply_in v word.Rows fs = None
 
 abbrev pub reply_of : Version → ReplyWord → List (List ℕ) → Option Reply

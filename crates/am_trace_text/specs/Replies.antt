@@ -3,15 +3,15 @@
 use Rattle.std.specs.Prelude.{ℕ, ◌^◌, ◌<◌, List, [], ◌∷◌, map, length, decimal}
 use Rattle.am_record.specs.declared.step.Reply.{Reply}
 use Rattle.am_record.specs.declared.step.Reply.TheVariants.{Begun, Done, Found, Absent, Rows, Exists, Missing}
-use Rattle.am_record.specs.declared.step.Reply.TheVariants.{Committed, Aborted, Moved, MergeDone, Ended, Idle, Cleaned}
-use Rattle.am_record.specs.declared.step.Reply.TheVariants.{NoMark, Refused}
+use Rattle.am_record.specs.declared.step.Reply.TheVariants.{Deleted, Committed, Aborted, Moved, MergeDone, Ended, Idle}
+use Rattle.am_record.specs.declared.step.Reply.TheVariants.{Cleaned, NoMark, Refused}
 use Rattle.am_record.specs.declared.step.Refusal.{Refusal}
 use Rattle.am_record.specs.declared.step.Refusal.TheVariants.{Busy, SeatFull}
 use Rattle.am_text.specs.ReplyWords.{word_text, refusal_code}
 use Rattle.am_text.specs.declared.reply_word.ReplyWord.TheVariants as word
 use Rattle.am_trace_text.specs.Words.{key_word, record_word, hex}
 use Rattle.am_trace_text.specs.Bounds.{IsNumber, IsKey, IsValue, AreRecords}
-use Rattle.am_trace_text.specs.Steps.{HasSavepoints}
+use Rattle.am_trace_text.specs.Steps.{HasSavepoints, KnowsAllOps}
 use Rattle.am_trace_text.specs.declared.version.Version.{Version}
 
 abbrev pub refusal_fields : Refusal → List (List ℕ)
@@ -26,6 +26,7 @@ reply_fields v Absent = word_text word.Absent ∷ []
 reply_fields v (Rows rows) = word_text word.Rows ∷ decimal (length rows) ∷ map (record_word v) rows
 reply_fields v (Exists k) = word_text word.Exists ∷ key_word v k ∷ []
 reply_fields v Missing = word_text word.Missing ∷ []
+reply_fields v (Deleted n) = word_text word.Deleted ∷ decimal n ∷ []
 reply_fields v (Committed c) = word_text word.Committed ∷ decimal c ∷ []
 reply_fields v Aborted = word_text word.Aborted ∷ []
 reply_fields v (Moved n run) = word_text word.Moved ∷ decimal n ∷ decimal run ∷ []
@@ -48,6 +49,7 @@ IsReply v (Begun t) = IsNumber t
 IsReply v (Found w) = IsValue w
 IsReply v (Rows rows) = AreRecords v rows × IsNumber (length rows)
 IsReply v (Exists k) = IsKey v k
+IsReply v (Deleted n) = KnowsAllOps v × IsNumber n
 IsReply v (Committed c) = IsNumber c
 IsReply v (Moved n run) = IsNumber n × (run < 2 ^ 32)
 IsReply v (Ended k holder) = IsKey v k × IsNumber holder

@@ -1,10 +1,12 @@
 //! What the texts of traces are.
 
-ghost use Rattle.std.specs.Prelude.{◌≡◌, ◌≢◌, ◌↔◌, List, ℕ};
+ghost use Rattle.std.specs.Prelude.{◌≡◌, ◌≢◌, ◌↔◌, List, ℕ, false};
 ghost use Rattle.am_record.specs.Events.{Event};
-ghost use Rattle.am_trace_text.specs.Lines.{IsBadLine, IsEvent, IsTextOf, event_words};
+ghost use Rattle.am_trace_text.specs.Lines.{AreEvents, IsBadLine, IsEvent, IsTextOf, event_words, event_lines};
+ghost use Rattle.am_trace_text.specs.Lines.{trace_text};
+ghost use Rattle.am_trace_text.specs.Versions.{needs_three, version_needed};
 ghost use Rattle.am_trace_text.specs.declared.version.Version.{Version};
-ghost use Rattle.am_trace_text.specs.declared.version.Version.TheVariants.{One, Two};
+ghost use Rattle.am_trace_text.specs.declared.version.Version.TheVariants.{One, Two, Three};
 
 use am_text::words_are_fields;
 
@@ -19,8 +21,18 @@ pub fn traces_are_texts()
     words_are_fields();
 }
 
-/// All versions but the first have the lines of version 2, of the same events.
+/// All versions but the first have the lines of version 2, of the same events. Version 3 has lines of more events.
 pub fn lines_are_alike()
     ensures words { (v : Version) (e : Event) → v ≢ One → event_words v e ≡ event_words Two e }
-    ensures events { (v : Version) (e : Event) → v ≢ One → IsEvent v e ↔ IsEvent Two e }
+    ensures lines { (v : Version) (trace : List Event) → v ≢ One → event_lines v trace ≡ event_lines Two trace }
+    ensures events { (v : Version) (e : Event) → v ≢ One → IsEvent Two e → IsEvent v e }
+    ensures of_two { (e : Event) → IsEvent Two e ↔ (IsEvent Three e × (needs_three e ≡ false)) }
+{}
+
+/// The text of a trace in the version that it needs is the text of that trace, and that version is the second where
+/// that can write it.
+pub fn needed_version_writes()
+    ensures text { (trace : List Event) →
+        AreEvents Three trace → IsTextOf (trace_text (version_needed trace) trace) trace }
+    ensures second { (trace : List Event) → AreEvents Two trace → version_needed trace ≡ Two }
 {}

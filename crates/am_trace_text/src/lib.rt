@@ -7,6 +7,6 @@ mod read;
 mod version;
 
 pub use digits::{byte_of, digit_of};
-pub use laws::{lines_are_alike, traces_are_texts};
+pub use laws::{lines_are_alike, needed_version_writes, traces_are_texts};
 pub use read::ReadFault;
-pub use version::Version;
+pub use version::{Version, needs_three};

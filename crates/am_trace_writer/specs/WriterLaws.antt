@@ -1,20 +1,24 @@
 -- A writer that takes one piece and then another took both.
-use Rattle.std.proofs.Common.{◌≡◌, ℕ, List, [], ◌∷◌, ◌++◌, Bool, true, false, Option, Some, None, refl, ap, sym, ◌∙◌}
-use Rattle.std.proofs.Common.{subst, append_assoc, append-nil}
+use Rattle.std.proofs.Common.{◌≡◌, ℕ, List, [], ◌∷◌, ◌++◌, Bool, true, false, ◌||◌, Option, Some, None, refl, ap, sym}
+use Rattle.std.proofs.Common.{◌∙◌, subst, append_assoc, append-nil}
+use Rattle.std.specs.List.{list_any}
+use Rattle.std.proofs.Math.Bool.{or-false, or_assoc}
+use Rattle.std.proofs.lemmas.List.Folds.{list_any-append}
 use Rattle.std.proofs.lemmas.Bool.{true≢false}
 use Rattle.am_serial.specs.Trace.{Trace}
 use Rattle.std.specs.Io.KnownBytes.{Appends}
 use Rattle.am_sink.specs.SinkWrites.{Gave, GaveBeginning}
 use Rattle.am_sink.proofs.Writes.{gave_then, beginning_of_first, beginning_then}
 use Rattle.am_trace_text.specs.Lines.{event_lines, event_words, with_lf}
-use Rattle.am_trace_text.specs.declared.version.Version.TheVariants.{Two}
-use Rattle.am_trace_writer.specs.Writers.{TookLines}
+use Rattle.am_trace_text.specs.declared.version.Version.TheVariants.{Three}
+use Rattle.am_trace_text.specs.Versions.{needs_three}
+use Rattle.am_trace_writer.specs.Writers.{TookLines, needs_three_with}
 
-lines_of_both : (x y : Trace) → event_lines Two (x ++ y) ≡ event_lines Two x ++ event_lines Two y
+lines_of_both : (x y : Trace) → event_lines Three (x ++ y) ≡ event_lines Three x ++ event_lines Three y
 lines_of_both [] y = refl
 lines_of_both (e ∷ x) y =
-    ap (λ l. with_lf (event_words Two e) ++ l) (lines_of_both x y) ∙
-    sym (append_assoc (with_lf (event_words Two e)) (event_lines Two x) (event_lines Two y))
+    ap (λ l. with_lf (event_words Three e) ++ l) (lines_of_both x y) ∙
+    sym (append_assoc (with_lf (event_words Three e)) (event_lines Three x) (event_lines Three y))
 
 gave_none : (o : Option (List ℕ)) → Appends o o []
 gave_none None = tt
@@ -32,12 +36,12 @@ module _ {K : Type 0} (holds : K → Option (List ℕ)) where
       TookLines holds b false y c cut → TookLines holds a was (x ++ y) c cut
   took_then a b c true was x y f h = record {
     gave = subst (λ (l : List ℕ). GaveBeginning holds a l c) (sym (lines_of_both x y))
-        (beginning_then holds a b c (event_lines Two x) (event_lines Two y) f.gave h.gave);
+        (beginning_then holds a b c (event_lines Three x) (event_lines Three y) f.gave h.gave);
     stays = λ e. absurd (true≢false (sym (f.stays e).0));
   }
   took_then a b c false was x y f h = record {
     gave = subst (λ (l : List ℕ). Gave holds a l c) (sym (lines_of_both x y))
-        (gave_then holds a b c (event_lines Two x) (event_lines Two y) f.gave h.gave);
+        (gave_then holds a b c (event_lines Three x) (event_lines Three y) f.gave h.gave);
     stays = λ e. absurd (true≢false (sym (f.stays e).0));
   }
 
@@ -46,7 +50,7 @@ module _ {K : Type 0} (holds : K → Option (List ℕ)) where
       TookLines holds a was (x ++ y) c true
   cut_then a b c was x y f h = record {
     gave = subst (λ (l : List ℕ). GaveBeginning holds a l c) (sym (lines_of_both x y))
-        (beginning_of_first holds a c (event_lines Two x) (event_lines Two y) (begun_none_then a b c _ f.gave h));
+        (beginning_of_first holds a c (event_lines Three x) (event_lines Three y) (begun_none_then a b c _ f.gave h));
     stays = λ e. (refl, gave_none_then a b c [] (f.stays e).1 h);
   }
 
@@ -65,3 +69,14 @@ module _ {K : Type 0} (holds : K → Option (List ℕ)) where
       TookLines holds a was (x ++ y) b cut
   still_cut a b was true x y is f = cut_then a b b was x y f (gave_none (holds b))
   still_cut a b was false x y is f = absurd (true≢false (sym is))
+
+-- ---- the version that is needed
+
+pub needs_no_more : (was : Bool) → was ≡ needs_three_with was []
+needs_no_more was = sym (or-false was)
+
+pub needs_of_both : (was between is : Bool) (x y : Trace) → between ≡ needs_three_with was x →
+    is ≡ needs_three_with between y → is ≡ needs_three_with was (x ++ y)
+needs_of_both was between is x y f h =
+    h ∙ ap (λ b. b || list_any needs_three y) f ∙ or_assoc was (list_any needs_three x) (list_any needs_three y)
+    ∙ ap (λ b. was || b) (sym (list_any-append needs_three x y))

@@ -13,6 +13,9 @@ pub trait PieceTaker {
     // Whether some of what it took is lost.
     ghost has_lost: { Self → Bool };
 
+    // Whether version 3 of the text alone writes what it took.
+    ghost needs: { Self → Bool };
+
     /// Takes the events that come next.
     fn take(&mut self, piece: &[(Step, Reply)])
         ensures { took self.old piece.now self.new };
@@ -20,6 +23,10 @@ pub trait PieceTaker {
     /// Whether some of what it took is lost.
     fn is_cut(&self) -> bool
         ensures { result ≡ has_lost self.now };
+
+    /// Whether version 3 of the text alone writes what it took.
+    fn needs_three(&self) -> bool
+        ensures { result ≡ needs self.now };
 
     ghost took_none: { (a : Self) → took a [] a };
 
@@ -37,9 +44,15 @@ impl PieceTaker for LetGo {
 
     ghost has_lost = { λ _. false };
 
+    ghost needs = { λ _. false };
+
     fn take(&mut self, _piece: &[(Step, Reply)]) {}
 
     fn is_cut(&self) -> bool {
+        false
+    }
+
+    fn needs_three(&self) -> bool {
         false
     }
 

@@ -5,7 +5,7 @@ use Rattle.am_record.specs.declared.step.Step.{Step}
 use Rattle.am_record.specs.declared.step.Step.TheVariants.{Begin, Do, Commit, Abort, Merge, Clean}
 use Rattle.am_record.specs.declared.step.Refusal.{Refusal}
 use Rattle.am_record.specs.declared.step.Reply.{Reply}
-use Rattle.am_record.specs.declared.step.Reply.TheVariants.{Begun, Done, Found, Absent, Rows, Exists, Missing}
+use Rattle.am_record.specs.declared.step.Reply.TheVariants.{Begun, Done, Found, Absent, Rows, Exists, Missing, Deleted}
 use Rattle.am_record.specs.declared.step.Reply.TheVariants.{Committed, Aborted, Moved, MergeDone, Ended, Idle, Cleaned}
 use Rattle.am_record.specs.declared.step.Reply.TheVariants.{NoMark, Refused}
 use Rattle.am_traced_steps.specs.declared.change.Change.TheVariants.{Begins, Ends, Nothing}
@@ -41,6 +41,7 @@ begins_begin (Commit u) Absent t e = absurd (cc)
 begins_begin (Commit u) (Rows rows') t e = absurd (cc)
 begins_begin (Commit u) (Exists k') t e = absurd (cc)
 begins_begin (Commit u) Missing t e = absurd (cc)
+begins_begin (Commit u) (Deleted n') t e = absurd (cc)
 begins_begin (Commit u) (Committed c') t e = absurd (cc)
 begins_begin (Commit u) Aborted t e = absurd (cc)
 begins_begin (Commit u) (Moved n' run') t e = absurd (cc)
@@ -57,6 +58,7 @@ begins_begin (Abort u) Absent t e = absurd (cc)
 begins_begin (Abort u) (Rows rows') t e = absurd (cc)
 begins_begin (Abort u) (Exists k') t e = absurd (cc)
 begins_begin (Abort u) Missing t e = absurd (cc)
+begins_begin (Abort u) (Deleted n') t e = absurd (cc)
 begins_begin (Abort u) (Committed c') t e = absurd (cc)
 begins_begin (Abort u) Aborted t e = absurd (cc)
 begins_begin (Abort u) (Moved n' run') t e = absurd (cc)
@@ -77,6 +79,7 @@ ends_end Absent Begin t e = absurd (cc)
 ends_end (Rows rows') Begin t e = absurd (cc)
 ends_end (Exists k') Begin t e = absurd (cc)
 ends_end Missing Begin t e = absurd (cc)
+ends_end (Deleted n') Begin t e = absurd (cc)
 ends_end (Committed c') Begin t e = absurd (cc)
 ends_end Aborted Begin t e = absurd (cc)
 ends_end (Moved n' run') Begin t e = absurd (cc)
@@ -100,6 +103,7 @@ ends_end Absent step t e = absurd (cc)
 ends_end (Rows rows') step t e = absurd (cc)
 ends_end (Exists k') step t e = absurd (cc)
 ends_end Missing step t e = absurd (cc)
+ends_end (Deleted n') step t e = absurd (cc)
 ends_end (Moved n' run') step t e = absurd (cc)
 ends_end MergeDone step t e = absurd (cc)
 ends_end (Ended k' h') step t e = absurd (cc)

@@ -5,14 +5,14 @@ use Rattle.std.specs.Prelude.{nat_le}
 use Rattle.std.proofs.lemmas.Bool.{and_parts, not-false}
 use Rattle.std.proofs.lemmas.List.{map-append}
 use Rattle.am_record.specs.declared.step.Op.{Op}
-use Rattle.am_record.specs.declared.step.Op.TheVariants.{Get, Scan}
+use Rattle.am_record.specs.declared.step.Op.TheVariants.{Get, Scan, ScanBack}
 use Rattle.am_record.specs.declared.step.Step.{Step}
 use Rattle.am_record.specs.declared.step.Step.TheVariants.{Begin, Do, Commit, Abort, Merge, Clean}
 use Rattle.am_record.specs.declared.step.Refusal.{Refusal}
 use Rattle.am_record.specs.declared.step.Refusal.TheVariants.{NoSuchTx, Busy, TooManyTx, TooManyLocks, TooManyOps}
 use Rattle.am_record.specs.declared.step.Refusal.TheVariants.{TooManyRuns, NotRising, BadLimit, NoMemory, SeatFull}
 use Rattle.am_record.specs.declared.step.Reply.{Reply}
-use Rattle.am_record.specs.declared.step.Reply.TheVariants.{Begun, Done, Found, Absent, Rows, Exists, Missing}
+use Rattle.am_record.specs.declared.step.Reply.TheVariants.{Begun, Done, Found, Absent, Rows, Exists, Missing, Deleted}
 use Rattle.am_record.specs.declared.step.Reply.TheVariants.{Committed, Aborted, Moved, MergeDone, Ended, Idle, Cleaned}
 use Rattle.am_record.specs.declared.step.Reply.TheVariants.{NoMark, Refused}
 use Rattle.am_undo.specs.declared.note.Note.{Note}
@@ -112,6 +112,7 @@ answers_of p Begin Absent fit may = no_end _ _ _ refl refl
 answers_of p Begin (Rows rows) fit may = no_end _ _ _ refl refl
 answers_of p Begin (Exists k) fit may = no_end _ _ _ refl refl
 answers_of p Begin Missing fit may = no_end _ _ _ refl refl
+answers_of p Begin (Deleted n) fit may = no_end _ _ _ refl refl
 answers_of p Begin (Committed c) fit may = no_end _ _ _ refl refl
 answers_of p Begin Aborted fit may = no_end _ _ _ refl refl
 answers_of p Begin (Moved n run) fit may = no_end _ _ _ refl refl
@@ -129,6 +130,7 @@ answers_of p (Commit u) Absent fit may = absurd may
 answers_of p (Commit u) (Rows rows) fit may = absurd may
 answers_of p (Commit u) (Exists k) fit may = absurd may
 answers_of p (Commit u) Missing fit may = absurd may
+answers_of p (Commit u) (Deleted n) fit may = absurd may
 answers_of p (Commit u) (Committed c) fit may = does_end p _ _ u refl refl may.0
 answers_of p (Commit u) Aborted fit may = absurd may
 answers_of p (Commit u) (Moved n run) fit may = absurd may
@@ -154,6 +156,7 @@ answers_of p (Abort u) Absent fit may = absurd may
 answers_of p (Abort u) (Rows rows) fit may = absurd may
 answers_of p (Abort u) (Exists k) fit may = absurd may
 answers_of p (Abort u) Missing fit may = absurd may
+answers_of p (Abort u) (Deleted n) fit may = absurd may
 answers_of p (Abort u) (Committed c) fit may = absurd may
 answers_of p (Abort u) Aborted fit may = does_end p _ _ u refl refl may
 answers_of p (Abort u) (Moved n run) fit may = absurd may
@@ -197,6 +200,8 @@ room_within false n max is le = absurd (cc)
 rows_answered : (t : ℕ) (op : Op) (r : Reply) → IsAnswerOf op r → is_bounded op ≡ true → IsWithin (Do t op) r →
     count_rows r ≤ room_of (Do t op)
 rows_answered t (Scan range max) (Rows rows) a b w = room_within (nat_le max 1000) (length rows) max
+    (and_parts (nat_le 1 max) (nat_le max 1000) b).1 w
+rows_answered t (ScanBack range max) (Rows rows) a b w = room_within (nat_le max 1000) (length rows) max
     (and_parts (nat_le 1 max) (nat_le max 1000) b).1 w
 rows_answered t op (Rows rows) a b w = absurd a
 rows_answered t op reply a b w = omega arith

@@ -3,7 +3,7 @@ use Rattle.std.specs.Prelude.{◌≡◌, ℕ, ◌≤◌, nat_le, List, [], ◌�
 use Rattle.std.specs.Prelude.{if◌then◌else◌, Option, Some, None}
 use Rattle.am_record.specs.Limits.{max_limit, max_rows}
 use Rattle.am_record.specs.ByNumber.{has_number, without_number}
-use Rattle.am_record.specs.declared.step.Op.TheVariants.{Scan}
+use Rattle.am_record.specs.declared.step.Op.TheVariants.{Scan, ScanBack}
 use Rattle.am_record.specs.declared.step.Step.{Step}
 use Rattle.am_record.specs.declared.step.Step.TheVariants.{Begin, Do, Commit, Abort}
 use Rattle.am_record.specs.declared.step.Refusal.TheVariants.{NoMemory, SeatFull}
@@ -49,6 +49,7 @@ is_stored _ = true
 -- how many rows the reply to a step may have
 abbrev pub room_of : Step → ℕ
 room_of (Do t (Scan range max)) = if nat_le max max_rows then max else 0
+room_of (Do t (ScanBack range max)) = if nat_le max max_rows then max else 0
 room_of _ = 0
 
 abbrev pub count_rows : Reply → ℕ

@@ -1,12 +1,12 @@
 -- The active transactions, in the order in which they began.
-use Rattle.std.specs.Prelude.{ℕ, List, [], Bool, true, map}
+use Rattle.std.specs.Prelude.{ℕ, List, [], Bool, map}
 use Rattle.am_record.specs.ByNumber.{has_number, of_number}
 use Rattle.am_undo.specs.Log.{Log}
 use Rattle.am_tx.specs.declared.transaction.Transaction.{Transaction}
 
 -- a log without notes
 abbrev pub no_notes : Log
-no_notes = record { notes = []; marks = []; has_room = true }
+no_notes = record { notes = []; marks = []; room = 4 }
 
 -- a transaction that has just begun
 abbrev pub new_transaction : ℕ → Transaction

@@ -6,12 +6,12 @@ use Rattle.am_record.specs.OrderedKey.{OrderedKey, key_code}
 use Rattle.am_undo.specs.declared.note.Note.{Note}
 use Rattle.am_undo.specs.declared.note.Note.TheVariants.{New, Before, RunMade}
 
--- the notes and the marks, the newest first, and whether one more note is sure to fit; each mark is the number of notes
+-- the notes and the marks, the newest first, and how many more notes are sure to fit; each mark is the number of notes
 -- at it
 pub record Log : Type 0 where
   pub notes : List Note
   pub marks : List ℕ
-  pub has_room : Bool
+  pub room : ℕ
 
 -- a note is stored as the fields of its variant
 abbrev pub NoteFields : Type 0
@@ -37,6 +37,6 @@ note_code = code_by NoteFields (coded⊎ key_code (coded⊎ (coded× (coded× co
     (coded× (coded_list coded_ℕ) coded_bool)) coded_ℕ)) fields_of_note note_of_fields note_of_fields_of_note
 
 abbrev pub log_code : Coded Log
-log_code = code_by (List Note × (List ℕ × Bool)) (coded× (coded_list note_code)
-    (coded× (coded_list coded_ℕ) coded_bool)) (λ l. (l.notes, (l.marks, l.has_room)))
-    (λ p. record { notes = p.0; marks = p.1.0; has_room = p.1.1 }) (λ _. refl)
+log_code = code_by (List Note × (List ℕ × ℕ)) (coded× (coded_list note_code)
+    (coded× (coded_list coded_ℕ) coded_ℕ)) (λ l. (l.notes, (l.marks, l.room)))
+    (λ p. record { notes = p.0; marks = p.1.0; room = p.1.1 }) (λ _. refl)

@@ -1,6 +1,6 @@
 //! The notes of one transaction.
 
-ghost use Rattle.std.specs.Prelude.{◌≡◌, ◌+◌, ◌<◌, ℕ, [], ◌∷◌, true, length, reverse, drop, take};
+ghost use Rattle.std.specs.Prelude.{◌≡◌, ◌+◌, ◌<◌, ◌≤◌, ℕ, [], ◌∷◌, true, length, reverse, drop, take};
 ghost use Rattle.std.specs.Prelude.{IsOk, OnOk, OnErr, IsSome, if◌then◌else◌, ◌==◌};
 ghost use Rattle.am_record.specs.OrderedKey.{OrderedKey};
 ghost use Rattle.am_index.specs.Entries.{find, IsRising};
@@ -35,7 +35,7 @@ impl Drop for UndoLog {
 }
 
 impl Model for UndoLog {
-    ghost use Rattle.std.specs.Prelude.{◌+◌, ◌≤◌, nat_le, length, reverse};
+    ghost use Rattle.std.specs.Prelude.{◌-◌, ◌≤◌, length, reverse};
     ghost use Rattle.am_undo.specs.Log.{Log, log_code};
 
     ghost Value = { Log };
@@ -45,7 +45,7 @@ impl Model for UndoLog {
     ghost view = { λ a. record {
       notes = reverse a.notes.items;
       marks = reverse a.marks.items;
-      has_room = nat_le (length a.notes.items + 1) a.notes.capacity;
+      room = a.notes.capacity - length a.notes.items;
     } };
 
     ghost invariant = { λ a. (4 ≤ a.notes.capacity) × (2 ≤ a.marks.capacity) };
@@ -56,7 +56,7 @@ impl UndoLog {
     pub fn new(alloc: Global) -> UndoLog
         ensures notes { result.notes ≡ [] }
         ensures marks { result.marks ≡ [] }
-        ensures room { result.has_room ≡ true }
+        ensures room { result.room ≡ 4 }
     {
         UndoLog {
             notes: SmallVec::new(alloc),
@@ -71,19 +71,34 @@ impl UndoLog {
     pub fn reserve_one(&mut self) -> Result<(), NoMemory>
         ensures notes { self.new.notes ≡ self.old.notes }
         ensures marks { self.new.marks ≡ self.old.marks }
-        ensures ok { OnOk result (self.new.has_room ≡ true) }
+        ensures ok { OnOk result (0 < self.new.room) }
         ensures err { OnErr result (self.new ≡ self.old) }
         ensures inline { length self.old.notes < 4 → IsOk result }
     {
-        self.notes.reserve(1)?;
+        self.reserve(1)
+    }
+
+    /// Gets the room for so many more notes. It wants memory only where these and those that stand are more than four.
+    ///
+    /// # Errors
+    /// NoMemory, where memory was refused; nothing is changed.
+    pub fn reserve(&mut self, more: usize) -> Result<(), NoMemory>
+        ensures notes { self.new.notes ≡ self.old.notes }
+        ensures marks { self.new.marks ≡ self.old.marks }
+        ensures ok { OnOk result (more ≤ self.new.room) }
+        ensures err { OnErr result (self.new ≡ self.old) }
+        ensures inline { length self.old.notes + more ≤ 4 → IsOk result }
+    {
+        self.notes.reserve(more)?;
         Ok(())
     }
 
-    /// Adds a note as the newest. The caller has the room for it by `reserve_one`. Takes no memory.
+    /// Adds a note as the newest. The caller has the room for it by `reserve` or `reserve_one`. Takes no memory.
     pub fn note(&mut self, note: Note)
-        requires { self.old.has_room ≡ true }
+        requires { 0 < self.old.room }
         ensures notes { self.new.notes ≡ note ∷ self.old.notes }
         ensures marks { self.new.marks ≡ self.old.marks }
+        ensures room { self.new.room + 1 ≡ self.old.room }
     {
         self.notes.push_reserved(note);
     }
@@ -100,7 +115,7 @@ impl UndoLog {
         ensures rooms { KeepRoom parts.old.roomy parts.new.roomy parts.new.entries }
         ensures notes { self.new.notes ≡ [] }
         ensures marks { self.new.marks ≡ [] }
-        ensures room { self.new.has_room ≡ true }
+        ensures room { 4 ≤ self.new.room }
     {
         take_back_above(&mut self.notes, 0, parts);
         self.marks.clear();
@@ -112,7 +127,7 @@ impl UndoLog {
     /// NoMemory, where memory was refused; nothing is changed.
     pub fn mark(&mut self) -> Result<(), NoMemory>
         ensures notes { self.new.notes ≡ self.old.notes }
-        ensures room { self.new.has_room ≡ self.old.has_room }
+        ensures room { self.new.room ≡ self.old.room }
         ensures ok { OnOk result (self.new.marks ≡ length self.old.notes ∷ self.old.marks) }
         ensures err { OnErr result (self.new ≡ self.old) }
         ensures inline { length self.old.marks < 2 → IsOk result }
@@ -136,7 +151,7 @@ impl UndoLog {
         ensures rooms { KeepRoom parts.old.roomy parts.new.roomy parts.new.entries }
         ensures notes { self.new.notes ≡ until_mark self.old.marks self.old.notes }
         ensures marks { self.new.marks ≡ older self.old.marks }
-        ensures room { self.old.has_room ≡ true → self.new.has_room ≡ true }
+        ensures room { self.old.room ≤ self.new.room }
     {
         let Some(mark) = self.marks.pop() else {
             // Asked here, each value is known to have its room.

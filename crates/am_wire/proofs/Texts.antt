@@ -7,8 +7,8 @@ use Rattle.std.proofs.lemmas.Bool.Decides.{nat_tests}
 use Rattle.std.proofs.lemmas.List.Elements.{All-head, All-tail}
 use Rattle.am_record.specs.declared.step.Reply.{Reply}
 use Rattle.am_record.specs.declared.step.Reply.TheVariants.{Begun, Done, Found, Absent, Rows, Exists, Missing}
-use Rattle.am_record.specs.declared.step.Reply.TheVariants.{Committed, Aborted, Moved, MergeDone, Ended, Idle, Cleaned}
-use Rattle.am_record.specs.declared.step.Reply.TheVariants.{NoMark, Refused}
+use Rattle.am_record.specs.declared.step.Reply.TheVariants.{Deleted, Committed, Aborted, Moved, MergeDone, Ended, Idle}
+use Rattle.am_record.specs.declared.step.Reply.TheVariants.{Cleaned, NoMark, Refused}
 use Rattle.am_record.specs.declared.step.Refusal.{Refusal}
 use Rattle.am_record.specs.declared.step.Refusal.TheVariants.{NoSuchTx, Busy, TooManyTx, TooManyLocks, TooManyOps}
 use Rattle.am_record.specs.declared.step.Refusal.TheVariants.{TooManyRuns, NotRising, BadLimit, NoMemory, SeatFull}
@@ -112,6 +112,7 @@ HasNoLf-words_of (Rows rows) h = HasNoLf-append (codes "ROWS " ++ decimal (lengt
 HasNoLf-words_of (Exists key) h = HasNoLf-append (codes "EXISTS ") (printed_key key)
     (HasNoLf-free (codes "EXISTS ") refl) (HasNoLf-visible (printed_key key) h)
 HasNoLf-words_of Missing h = HasNoLf-free (codes "MISSING") refl
+HasNoLf-words_of (Deleted n) h = behind (codes "DELETED ") n refl
 HasNoLf-words_of (Committed commit) h = behind (codes "COMMITTED ") commit refl
 HasNoLf-words_of Aborted h = HasNoLf-free (codes "ABORTED") refl
 HasNoLf-words_of (Moved n run) h = then_number (codes "MOVED " ++ decimal n) run (behind (codes "MOVED ") n refl)

@@ -61,12 +61,19 @@ visible_with : (v : Verb) (a : Arguments (verb_shape v)) (request : Request) →
     option_map (request_with v) (values_for (verb_shape v) a) ≡ Some request → AsksVisible request
 visible_with verb.Get a r h e = told (request_with verb.Get) (values_for one_key a) r (λ x f. tt) e
 visible_with verb.Scan a r h e = told (request_with verb.Scan) (values_for range_and_number a) r (λ x f. tt) e
+visible_with verb.ScanBack a r h e = told (request_with verb.ScanBack) (values_for range_and_number a) r (λ x f. tt) e
 visible_with verb.Insert a r h e = told (request_with verb.Insert) (values_for one_record a) r
     (λ x f. record_visible a x h f) e
 visible_with verb.Replace a r h e = told (request_with verb.Replace) (values_for one_record a) r
     (λ x f. record_visible a x h f) e
+visible_with verb.Set a r h e = told (request_with verb.Set) (values_for one_record a) r
+    (λ x f. record_visible a x h f) e
+visible_with verb.DeleteRange a r h e = told (request_with verb.DeleteRange) (values_for range_and_number a) r
+    (λ x f. tt) e
 visible_with verb.Delete a r h e = told (request_with verb.Delete) (values_for one_key a) r (λ x f. tt) e
 visible_with verb.Load a r h e = told (request_with verb.Load) (values_for some_records a) r
+    (λ x f. records_visible a x h.1 f) e
+visible_with verb.Put a r h e = told (request_with verb.Put) (values_for some_records a) r
     (λ x f. records_visible a x h.1 f) e
 visible_with verb.Stage a r h e = told (request_with verb.Stage) (values_for some_records a) r
     (λ x f. records_visible a x h.1 f) e

@@ -20,10 +20,14 @@ abbrev pub verb_shape : Verb → VerbShape
 verb_shape verb.Begin = bare
 verb_shape verb.Get = one_key
 verb_shape verb.Scan = range_and_number
+verb_shape verb.ScanBack = range_and_number
 verb_shape verb.Insert = one_record
 verb_shape verb.Replace = one_record
+verb_shape verb.Set = one_record
 verb_shape verb.Delete = one_key
+verb_shape verb.DeleteRange = range_and_number
 verb_shape verb.Load = some_records
+verb_shape verb.Put = some_records
 verb_shape verb.Stage = some_records
 verb_shape verb.Lock = mode_and_range
 verb_shape verb.Mark = bare
@@ -56,10 +60,14 @@ abbrev pub request_with : (v : Verb) → Values (verb_shape v) → Request
 request_with verb.Begin a = Begin
 request_with verb.Get key = Do (op.Get key)
 request_with verb.Scan a = Do (op.Scan a.0 a.1)
+request_with verb.ScanBack a = Do (op.ScanBack a.0 a.1)
 request_with verb.Insert r = Do (op.Insert r.0 r.1)
 request_with verb.Replace r = Do (op.Replace r.0 r.1)
+request_with verb.Set r = Do (op.Set r.0 r.1)
 request_with verb.Delete key = Do (op.Delete key)
+request_with verb.DeleteRange a = Do (op.DeleteRange a.0 a.1)
 request_with verb.Load rs = Do (op.Load rs)
+request_with verb.Put rs = Do (op.Put rs)
 request_with verb.Stage rs = Stage rs
 request_with verb.Lock lock = Do (op.Lock lock)
 request_with verb.Mark a = Do op.Mark
@@ -85,6 +93,7 @@ Spells line read = (form : Form) × IsProper form × (line ≡ spelling form) ×
 -- whether records come with it
 abbrev pub brings_records : Request → Bool
 brings_records (Do (op.Load records)) = true
+brings_records (Do (op.Put records)) = true
 brings_records (Stage records) = true
 brings_records _ = false
 

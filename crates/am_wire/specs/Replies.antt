@@ -5,8 +5,8 @@ use Rattle.am_record.specs.OrderedKey.{OrderedKey}
 use Rattle.am_record.specs.Records.{Records}
 use Rattle.am_record.specs.declared.step.Reply.{Reply}
 use Rattle.am_record.specs.declared.step.Reply.TheVariants.{Begun, Done, Found, Absent, Rows, Exists, Missing}
-use Rattle.am_record.specs.declared.step.Reply.TheVariants.{Committed, Aborted, Moved, MergeDone, Ended, Idle, Cleaned}
-use Rattle.am_record.specs.declared.step.Reply.TheVariants.{NoMark, Refused}
+use Rattle.am_record.specs.declared.step.Reply.TheVariants.{Deleted, Committed, Aborted, Moved, MergeDone, Ended, Idle}
+use Rattle.am_record.specs.declared.step.Reply.TheVariants.{Cleaned, NoMark, Refused}
 use Rattle.am_record.specs.declared.step.Refusal.{Refusal}
 use Rattle.am_record.specs.declared.step.Refusal.TheVariants.{Busy}
 use Rattle.am_text.specs.declared.reply_word.ReplyWord.TheVariants as word
@@ -38,6 +38,7 @@ head_of Absent = word_text word.Absent
 head_of (Rows rows) = spaced word.Rows ++ decimal (length rows)
 head_of (Exists key) = spaced word.Exists ++ printed_key key
 head_of Missing = word_text word.Missing
+head_of (Deleted n) = spaced word.Deleted ++ decimal n
 head_of (Committed commit) = spaced word.Committed ++ decimal commit
 head_of Aborted = word_text word.Aborted
 head_of (Moved n run) = ((spaced word.Moved ++ decimal n) ++ codes " ") ++ decimal run

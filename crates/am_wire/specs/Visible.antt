@@ -1,7 +1,7 @@
 -- Requests whose keys and values are written with visible bytes alone, so that replies that tell them are lines.
 use Rattle.std.specs.List.{AllByRecursion}
 use Rattle.am_record.specs.declared.step.Op.{Op}
-use Rattle.am_record.specs.declared.step.Op.TheVariants.{Insert, Replace, Load}
+use Rattle.am_record.specs.declared.step.Op.TheVariants.{Insert, Replace, Set, Load, Put}
 use Rattle.am_wire.specs.Replies.{IsVisibleRow}
 use Rattle.am_wire.specs.declared.request.Request.{Request}
 use Rattle.am_wire.specs.declared.request.Request.TheVariants.{Do, Stage}
@@ -10,7 +10,9 @@ use Rattle.am_wire.specs.declared.request.Request.TheVariants.{Do, Stage}
 abbrev pub WritesVisible : Op → Type 0
 WritesVisible (Insert key value) = IsVisibleRow (key, value)
 WritesVisible (Replace key value) = IsVisibleRow (key, value)
+WritesVisible (Set key value) = IsVisibleRow (key, value)
 WritesVisible (Load records) = AllByRecursion IsVisibleRow records
+WritesVisible (Put records) = AllByRecursion IsVisibleRow records
 WritesVisible op = Unit {0}
 
 abbrev pub AsksVisible : Request → Type 0

@@ -44,6 +44,10 @@ fn parse_with(alloc: Global, verb: Verb, fields: Fields<'_>) -> Result<Request, 
             let (range, max) = parse_range_and_number(fields)?;
             Ok(Request::Do(Op::Scan(range, max)))
         }
+        Verb::ScanBack => {
+            let (range, max) = parse_range_and_number(fields)?;
+            Ok(Request::Do(Op::ScanBack(range, max)))
+        }
         Verb::Insert => {
             let (key, value) = parse_one_record(fields)?;
             Ok(Request::Do(Op::Insert(key, value)))
@@ -52,8 +56,17 @@ fn parse_with(alloc: Global, verb: Verb, fields: Fields<'_>) -> Result<Request, 
             let (key, value) = parse_one_record(fields)?;
             Ok(Request::Do(Op::Replace(key, value)))
         }
+        Verb::Set => {
+            let (key, value) = parse_one_record(fields)?;
+            Ok(Request::Do(Op::Set(key, value)))
+        }
         Verb::Delete => Ok(Request::Do(Op::Delete(parse_one_key(fields)?))),
+        Verb::DeleteRange => {
+            let (range, max) = parse_range_and_number(fields)?;
+            Ok(Request::Do(Op::DeleteRange(range, max)))
+        }
         Verb::Load => Ok(Request::Do(Op::Load(parse_records(alloc, fields)?))),
+        Verb::Put => Ok(Request::Do(Op::Put(parse_records(alloc, fields)?))),
         Verb::Stage => Ok(Request::Stage(parse_records(alloc, fields)?)),
         Verb::Lock => Ok(Request::Do(Op::Lock(parse_mode_and_range(fields)?))),
         Verb::Mark => parse_bare(fields, Request::Do(Op::Mark)),

@@ -51,6 +51,7 @@ fn head_of(reply: &Reply) -> Text
         Reply::Rows(rows) => spaced(ReplyWord::Rows).then_number(rows.as_slice().len() as u64),
         Reply::Exists(key) => spaced(ReplyWord::Exists).then_key(*key),
         Reply::Missing => Text::new(ReplyWord::Missing.text()),
+        Reply::Deleted(n) => spaced(ReplyWord::Deleted).then_number(*n),
         Reply::Committed(commit) => spaced(ReplyWord::Committed).then_number(*commit),
         Reply::Aborted => Text::new(ReplyWord::Aborted.text()),
         Reply::Moved(n, run) => spaced(ReplyWord::Moved)

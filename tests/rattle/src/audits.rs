@@ -194,6 +194,89 @@ GET 2 h0000000000000001 | NONE
     expect(&rt, rt.alloc(), text, Ok(1));
 }
 
+#[test]
+fn audit_sets_and_deleted_ranges(rt: HostRuntime) {
+    let text = b"TRACE 3
+BEGIN | BEGUN 1
+SET 1 h61 h31 | OK
+SET 1 h62 h32 | OK
+SET 1 h61 h33 | OK
+RSCAN 1 h61 h7a 1 | ROWS 1 h62=h32
+RSCAN 1 h61 h7a 9 | ROWS 2 h62=h32 h61=h33
+MARK 1 | OK
+DELR 1 h61 h7a 1 | DELETED 1
+GET 1 h61 | NONE
+BACK 1 | OK
+DELR 1 h61 h7a 1001 | ERR LIMIT
+DELR 1 h61 h7a 9 | DELETED 2
+DELR 1 h61 h7a 9 | DELETED 0
+COMMIT 1 | COMMITTED 1
+";
+    expect(&rt, rt.alloc(), text, Ok(1));
+}
+
+#[test]
+fn audit_rows_that_rise(rt: HostRuntime) {
+    let text = b"TRACE 3
+BEGIN | BEGUN 1
+SET 1 h61 h31 | OK
+SET 1 h62 h32 | OK
+RSCAN 1 h61 h7a 9 | ROWS 2 h61=h31 h62=h32
+COMMIT 1 | COMMITTED 1
+";
+    expect(&rt, rt.alloc(), text, wrong(5, FaultKind::Answer));
+}
+
+#[test]
+fn audit_one_deleted_too_many(rt: HostRuntime) {
+    let text = b"TRACE 3
+BEGIN | BEGUN 1
+SET 1 h61 h31 | OK
+DELR 1 h61 h7a 9 | DELETED 2
+COMMIT 1 | COMMITTED 1
+";
+    expect(&rt, rt.alloc(), text, wrong(4, FaultKind::Answer));
+    let text = b"TRACE 3
+BEGIN | BEGUN 1
+DELR 1 h61 h7a 9 | DELETED 10
+";
+    expect(&rt, rt.alloc(), text, wrong(3, FaultKind::Form));
+}
+
+#[test]
+fn audit_set_that_finds_a_record(rt: HostRuntime) {
+    let text = b"TRACE 3
+BEGIN | BEGUN 1
+SET 1 h61 h31 | OK
+SET 1 h61 h32 | EXISTS h61
+";
+    expect(&rt, rt.alloc(), text, wrong(4, FaultKind::Form));
+}
+
+// What was read stands in the way of a range that loses records, and what it lost in the way of who would read it.
+#[test]
+fn audit_deleted_range_locks(rt: HostRuntime) {
+    let text = b"TRACE 3
+BEGIN | BEGUN 1
+BEGIN | BEGUN 2
+RSCAN 1 h61 h63 9 | ROWS 0
+DELR 2 h62 h7a 9 | BUSY 1
+DELR 2 h64 h7a 9 | DELETED 0
+GET 1 h65 | BUSY 2
+SET 1 h7a h31 | BUSY 2
+COMMIT 2 | COMMITTED 1
+COMMIT 1 | COMMITTED 2
+";
+    expect(&rt, rt.alloc(), text, Ok(2));
+    let text = b"TRACE 3
+BEGIN | BEGUN 1
+BEGIN | BEGUN 2
+DELR 1 h61 h63 9 | DELETED 0
+SET 2 h62 h31 | OK
+";
+    expect(&rt, rt.alloc(), text, wrong(5, FaultKind::Busy));
+}
+
 // The second transaction asks for no rows in a range that the first has locked.
 #[test]
 fn audit_limits_before_busy(rt: HostRuntime) {

@@ -32,6 +32,8 @@ mod over_std;
 mod own_lines;
 mod partitions;
 mod plain;
+mod put_sessions;
+mod puts;
 mod recording;
 mod records;
 mod refused;

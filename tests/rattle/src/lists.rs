@@ -175,6 +175,36 @@ fn copies_live_rows_of_one_partition(rt: HostRuntime) {
     copies(&rt, &index, &mut rows, 99, &[2, 4, 5, 7, 8]);
 }
 
+// The same from the highest key down.
+fn copies_back(
+    rt: &impl Abort,
+    index: &ListIndex,
+    rows: &mut Vec<(Key, Value)>,
+    max: u64,
+    numbers: &[u64],
+) {
+    let range = Range::new(Key::of_u64(2), Key::of_u64(9)).expect(rt, "in order");
+    assert!(rt; rows.len() as u64 <= max);
+    index
+        .copy_rows_back(1, range, max, rows)
+        .expect(rt, "memory");
+    assert!(rt; rows.len() == numbers.len());
+    for (row, number) in rows.iter().zip(numbers) {
+        assert!(rt; *row == (Key::of_u64(*number), byte(b'n')));
+    }
+}
+
+#[test]
+fn copies_live_rows_of_one_partition_back(rt: HostRuntime) {
+    let index = of_three_partitions(&rt, rt.alloc());
+    let mut rows = Vec::new(rt.alloc());
+    copies_back(&rt, &index, &mut rows, 1, &[8]);
+    copies_back(&rt, &index, &mut rows, 1, &[8]);
+    copies_back(&rt, &index, &mut rows, 4, &[8, 8, 7, 5]);
+    let mut rows = Vec::new(rt.alloc());
+    copies_back(&rt, &index, &mut rows, 99, &[8, 7, 5, 4, 2]);
+}
+
 fn has(rt: &impl Abort, index: &ListIndex, entries: &[Entry]) {
     assert!(rt; index.entries() == entries);
 }

@@ -66,7 +66,7 @@ impl Numbers {
 
     // An operation of any kind.
     pub(crate) fn op(&mut self, alloc: Global) -> Result<Op, NoMemory> {
-        Ok(match self.below(16) {
+        Ok(match self.below(20) {
             0 | 1 => Op::Get(self.key()),
             2 | 3 => Op::Scan(self.range(), 1 + self.below(4)),
             4 | 5 => Op::Insert(self.key(), self.value()),
@@ -75,6 +75,10 @@ impl Numbers {
             10 => Op::Lock(self.lock()),
             11 => Op::Mark,
             12 => Op::Back,
+            13 => Op::Set(self.key(), self.value()),
+            14 => Op::ScanBack(self.range(), 1 + self.below(4)),
+            15 => Op::DeleteRange(self.range(), 1 + self.below(4)),
+            16 => Op::Put(self.pairs(alloc)?),
             _ => Op::Load(self.pairs(alloc)?),
         })
     }

@@ -87,6 +87,71 @@ fn a_value_that_changed_twice_goes_back_to_the_mark(rt: HostRuntime) {
     answers(&rt, rt.alloc(), &ops, 5, &[Reply::Found(one)]);
 }
 
+#[test]
+fn a_set_puts_its_value_over_another(rt: HostRuntime) {
+    let a = key(&rt, b"a");
+    let (one, two) = (value(&rt, b"1"), value(&rt, b"2"));
+    let ops = [
+        Op::Set(a, one),
+        Op::Mark,
+        Op::Set(a, two),
+        Op::Get(a),
+        Op::Back,
+        Op::Get(a),
+    ];
+    let expected = [Reply::Found(two), Reply::Done, Reply::Found(one)];
+    answers(&rt, rt.alloc(), &ops, 3, &expected);
+}
+
+#[test]
+fn the_first_of_a_range_are_deleted_and_come_back(rt: HostRuntime) {
+    let (a, b, c) = (key(&rt, b"a"), key(&rt, b"b"), key(&rt, b"c"));
+    let one = value(&rt, b"1");
+    let all = range(&rt, b"a", b"c");
+    let ops = [
+        Op::Set(a, one),
+        Op::Set(b, one),
+        Op::Set(c, one),
+        Op::DeleteRange(all, 1),
+        Op::Mark,
+        Op::DeleteRange(all, 9),
+        Op::Get(c),
+        Op::Back,
+        Op::Get(a),
+        Op::Get(b),
+        Op::Back,
+    ];
+    let expected = [
+        Reply::Deleted(1),
+        Reply::Done,
+        Reply::Deleted(2),
+        Reply::Absent,
+        Reply::Done,
+        Reply::Absent,
+        Reply::Found(one),
+        Reply::NoMark,
+    ];
+    answers(&rt, rt.alloc(), &ops, 3, &expected);
+}
+
+#[test]
+fn rows_back_begin_at_the_highest_key(rt: HostRuntime) {
+    let alloc = rt.alloc();
+    let (one, two) = (value(&rt, b"1"), value(&rt, b"2"));
+    let mut plain = Plain::new(alloc);
+    for (name, held) in [(b"a", one), (b"b", two), (b"c", one)] {
+        is_answered(&rt, &mut plain, Op::Set(key(&rt, name), held), Reply::Done);
+    }
+    is_answered(&rt, &mut plain, Op::Delete(key(&rt, b"c")), Reply::Done);
+    let rows = vec![in alloc; (key(&rt, b"b"), two), (key(&rt, b"a"), one)];
+    let both = Reply::Rows(Records::new(rows.expect(&rt, "memory")));
+    let whole = range(&rt, b"a", b"z");
+    is_answered(&rt, &mut plain, Op::ScanBack(whole, 9), both);
+    let rows = vec![in alloc; (key(&rt, b"b"), two)];
+    let last = Reply::Rows(Records::new(rows.expect(&rt, "memory")));
+    is_answered(&rt, &mut plain, Op::ScanBack(whole, 1), last);
+}
+
 fn is_answered(rt: &impl Abort, plain: &mut Plain, op: Op, reply: Reply) {
     assert!(rt; plain.answer(&op) == Ok(reply));
 }

@@ -45,6 +45,7 @@ fn replies_have_their_texts(rt: HostRuntime) {
     let exists = Reply::Exists(key(&rt, b"0~"));
     has_text(&rt, rt.alloc(), exists, b"EXISTS 0~\n");
     has_text(&rt, rt.alloc(), Reply::Missing, b"MISSING\n");
+    has_text(&rt, rt.alloc(), Reply::Deleted(1000), b"DELETED 1000\n");
     has_text(&rt, rt.alloc(), Reply::Committed(10), b"COMMITTED 10\n");
     has_text(&rt, rt.alloc(), Reply::Aborted, b"ABORTED\n");
     let moved = Reply::Moved(16, u32::MAX);

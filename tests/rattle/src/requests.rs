@@ -56,8 +56,19 @@ fn lines_of_records_ranges_and_numbers_are_read(rt: HostRuntime) {
     asks(&rt, alloc, b"INS 5 a=!~", Request::Do(insert));
     let replace = Op::Replace(five, a);
     asks(&rt, alloc, b"REP 5 a=!~", Request::Do(replace));
+    let set = Op::Set(five, a);
+    asks(&rt, alloc, b"SET 5 a=!~", Request::Do(set));
     let scan = Op::Scan(range, 0);
     asks(&rt, alloc, b"SCAN 10 9 0", Request::Do(scan));
+    let scan = Op::ScanBack(range, u64::MAX);
+    asks(
+        &rt,
+        alloc,
+        b"RSCAN 10 9 18446744073709551615",
+        Request::Do(scan),
+    );
+    let delete = Op::DeleteRange(range, 1);
+    asks(&rt, alloc, b"DELR 10 9 1", Request::Do(delete));
     let mode = Mode::Shared;
     let lock = Op::Lock(Lock { mode, range });
     asks(&rt, alloc, b"LOCK S 10 9", Request::Do(lock));
@@ -107,7 +118,13 @@ fn lines_of_no_form(rt: HostRuntime) {
         b"INS aaaaaaaaaaaaaaaaaaaaaaaaaaaaaaaaa ",
         b"BEGIN\t",
         b"BEGIN 1",
+        b"SET 5",
+        b"SETS 5 a",
         b"SCAN 1 9",
+        b"RSCAN 1 9",
+        b"RSCA 1 9 5",
+        b"DELR 1 9 05",
+        b"DELR 1",
         b"SCAN 9 1 05",
         b"SCAN 1 9 +5",
         b"LOCK 1 9",

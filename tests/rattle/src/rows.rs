@@ -195,6 +195,25 @@ pub(crate) const SAVEPOINTS_ARE_NESTED: &[Exchange] = &[
     ("COMMIT", "COMMITTED 1"),
 ];
 
+pub(crate) const SET_AND_DELETED: &[Exchange] = &[
+    ("BEGIN", "BEGUN 1"),
+    ("SET a 1", "OK"),
+    ("SET a 2", "OK"),
+    ("LOAD b=3 c=4", "OK"),
+    ("SET c 5", "OK"),
+    ("RSCAN a z 2", "ROWS 2 c=5 b=3"),
+    ("MARK", "OK"),
+    ("DELR a z 2", "DELETED 2"),
+    ("RSCAN a z 9", "ROWS 1 c=5"),
+    ("BACK", "OK"),
+    ("RSCAN a z 9", "ROWS 3 c=5 b=3 a=2"),
+    ("DELR b z 9", "DELETED 2"),
+    ("DELR b z 9", "DELETED 0"),
+    ("DELR a z 0", "ERR LIMIT"),
+    ("RSCAN a z 1001", "ERR LIMIT"),
+    ("COMMIT", "COMMITTED 1"),
+];
+
 pub(crate) const STAGED_RECORDS_ARE_ONE_RUN: &[Exchange] = &[
     ("BEGIN", "BEGUN 1"),
     ("STAGE a=1 b=2", "OK"),
@@ -260,6 +279,7 @@ pub(crate) const NEVER_MERGED: &[&[Exchange]] = &[
     ABORTED_RUN_IS_NOT_SCANNED,
     KEYS_ARE_STRINGS,
     SAVEPOINTS_ARE_NESTED,
+    SET_AND_DELETED,
     BAD_LINES,
 ];
 

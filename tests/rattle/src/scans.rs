@@ -6,7 +6,7 @@ use am_index::PartIndex;
 use am_list_index::ListIndex;
 use am_parts::Parts;
 use am_record::{Entry, HashKey, Key, NoMemory, Range, Value};
-use am_scan::{Cursor, scan};
+use am_scan::{Cursor, scan, scan_back};
 use std::alloc::Global;
 use std::process::Abort;
 
@@ -21,6 +21,31 @@ fn named(text: &[u8]) -> Key {
 
 fn range(rt: &impl Abort, lo: u64, hi: u64) -> Range {
     Range::new(Key::of_u64(lo), Key::of_u64(hi)).expect(rt, "in order")
+}
+
+// The rows the other way round.
+fn turned(rt: &impl Abort, alloc: Global, rows: &[(Key, Value)]) -> Vec<(Key, Value)> {
+    let mut turned = Vec::new(alloc);
+    for row in rows.iter().rev() {
+        turned.push(*row).expect(rt, "memory");
+    }
+    turned
+}
+
+// A scan back has these rows. Where memory was refused it is asked again, since nothing was changed.
+fn scans_back<I: PartIndex + Drop>(
+    rt: &impl Abort,
+    alloc: Global,
+    parts: &Parts<I>,
+    range: Range,
+    max: u64,
+    rows: &[(Key, Value)],
+) {
+    let found = match scan_back(alloc, parts, range, max) {
+        Ok(found) => found,
+        Err(NoMemory) => scan_back(alloc, parts, range, max).expect(rt, "memory"),
+    };
+    assert!(rt; found.as_slice() == rows);
 }
 
 // A scan has these rows. Where memory was refused it is asked again, since nothing was changed.
@@ -85,6 +110,53 @@ fn scan_reads_every_partition(rt: HostRuntime) {
     let rows = [row(1, b'c'), row(2, b'd')];
     scans(&rt, rt.alloc(), &parts, all, 9, &rows);
     scans(&rt, rt.alloc(), &parts, all, 1, &[row(1, b'c')]);
+}
+
+#[test]
+fn scan_back_reads_every_partition(rt: HostRuntime) {
+    let entries = [
+        live(0, 1, b'c'),
+        dead(1, 1, b'a'),
+        dead(1, 2, b'b'),
+        live(2, 2, b'd'),
+        dead(2, 3, b'e'),
+    ];
+    let parts = over(&rt, rt.alloc(), &entries);
+    let all = range(&rt, 0, 9);
+    let rows = [row(2, b'd'), row(1, b'c')];
+    scans_back(&rt, rt.alloc(), &parts, all, 9, &rows);
+    scans_back(&rt, rt.alloc(), &parts, all, 1, &[row(2, b'd')]);
+    scans_back(&rt, rt.alloc(), &parts, all, 0, &[]);
+    let one = range(&rt, 1, 1);
+    scans_back(&rt, rt.alloc(), &parts, one, 9, &[row(1, b'c')]);
+    scans_back(&rt, rt.alloc(), &parts, range(&rt, 3, 3), 9, &[]);
+    scans_back(&rt, rt.alloc(), &parts, range(&rt, 4, 8), 9, &[]);
+}
+
+#[test]
+fn scan_back_keeps_to_its_range(rt: HostRuntime) {
+    let entries = [
+        live(0, 2, b'a'),
+        live(0, 3, b'b'),
+        live(0, 7, b'c'),
+        live(1, 1, b'd'),
+        live(1, 5, b'e'),
+        live(3, 8, b'f'),
+    ];
+    let parts = over(&rt, rt.alloc(), &entries);
+    let inner = [row(7, b'c'), row(5, b'e'), row(3, b'b')];
+    scans_back(&rt, rt.alloc(), &parts, range(&rt, 3, 7), 9, &inner);
+    scans_back(&rt, rt.alloc(), &parts, range(&rt, 3, 7), 2, &inner[..2]);
+    scans_back(&rt, rt.alloc(), &parts, range(&rt, 6, 6), 9, &[]);
+    scans_back(&rt, rt.alloc(), &parts, range(&rt, 9, 20), 9, &[]);
+}
+
+#[test]
+fn scan_back_of_nothing(rt: HostRuntime) {
+    let parts = over(&rt, rt.alloc(), &[]);
+    scans_back(&rt, rt.alloc(), &parts, range(&rt, 0, 9), 9, &[]);
+    let parts = over(&rt, rt.alloc(), &[dead(0, 1, b'a'), dead(2, 1, b'b')]);
+    scans_back(&rt, rt.alloc(), &parts, range(&rt, 0, 9), 9, &[]);
 }
 
 #[test]
@@ -228,7 +300,14 @@ fn first_numbers(rt: &impl Abort, alloc: Global, lo: u64, hi: u64, max: u64) -> 
     rows
 }
 
-// Scans of many limits give the first numbers, in however many runs these stand.
+// The rows of a scan back up to that number: of the numbers that aren't marked, the last ones.
+fn last_numbers(rt: &impl Abort, alloc: Global, lo: u64, hi: u64, max: u64) -> Vec<(Key, Value)> {
+    let mut rows = turned(rt, alloc, &first_numbers(rt, alloc, lo, hi, NUMBERS));
+    rows.truncate(max as usize);
+    rows
+}
+
+// Scans of many limits give the first numbers, and scans back the last ones, in however many runs these stand.
 fn scans_by_limit(rt: &impl Abort, alloc: Global, runs: u64) {
     for in_turn in [true, false] {
         let parts = dealt(rt, alloc, runs, in_turn);
@@ -236,6 +315,8 @@ fn scans_by_limit(rt: &impl Abort, alloc: Global, runs: u64) {
             for max in [1, 2, 3, 10, 64, 65, 100, 999, 1000] {
                 let rows = first_numbers(rt, alloc, lo, hi, max);
                 scans(rt, alloc, &parts, range(rt, lo, hi), max, &rows);
+                let rows = last_numbers(rt, alloc, lo, hi, max);
+                scans_back(rt, alloc, &parts, range(rt, lo, hi), max, &rows);
             }
         }
     }

@@ -274,6 +274,20 @@ fn savepoints_are_nested(rt: HostRuntime) -> Result<(), NoMemory> {
 }
 
 #[test]
+fn records_are_set_and_ranges_deleted(rt: HostRuntime) -> Result<(), NoMemory> {
+    leaves(
+        &rt,
+        rt.alloc(),
+        rows::SET_AND_DELETED,
+        &[
+            (0, "a", "2", Live),
+            (1, "b", "3", Ghost),
+            (1, "c", "5", Ghost),
+        ],
+    )
+}
+
+#[test]
 fn back_keeps_the_locks(rt: HostRuntime) -> Result<(), NoMemory> {
     let row = [
         (S1, "BEGIN", "BEGUN 1"),

@@ -5,7 +5,7 @@ use am_trace_fields::read_by_fields;
 use am_trace_front::front_event;
 use am_trace_print::trace_text;
 use am_trace_read::{TraceFault, read_trace};
-use am_trace_text::{Version, byte_of, digit_of};
+use am_trace_text::{Version, byte_of, digit_of, needs_three};
 
 const STORED: &[u8] = b"TRACE 2
 SCAN 1 h h6162 18446744073709551615 | ROWS 2 h61=h h6162=h00ff
@@ -16,6 +16,14 @@ LOAD 1 h61=h78 | ENDED h61 2
 const STORED_IN_3: &[u8] = b"TRACE 3
 SCAN 1 h h6162 18446744073709551615 | ROWS 2 h61=h h6162=h00ff
 LOAD 1 h61=h78 | ENDED h61 2
+";
+
+// Lines that version 3 alone has.
+const SET_AND_DELETED: &[u8] = b"TRACE 3
+SET 1 h61 h00ff | OK
+RSCAN 1 h h6162 18446744073709551615 | ROWS 2 h6162=h h61=h00ff
+DELR 2 h61 h7a 1000 | DELETED 18446744073709551615
+GET 1 h61 | NONE
 ";
 
 // The row of numbers as keys.
@@ -40,7 +48,7 @@ const USUAL: [&[u8]; 7] = [
 ];
 
 // Texts that are none of a trace, each with its first bad line.
-const BAD: [(&[u8], u64); 24] = [
+const BAD: [(&[u8], u64); 32] = [
     (b"", 1),
     (b"TRACE 2", 1),
     (b"TRACE 4\n", 1),
@@ -68,6 +76,14 @@ const BAD: [(&[u8], u64); 24] = [
     (b"TRACE 1\nMARK 1 | OK\n", 2),
     (b"TRACE 1\nBACK 1 | NOMARK\n", 2),
     (b"TRACE 1\nGET 7 01 | ERR NOTX\n", 2),
+    (b"TRACE 1\nSET 1 5 h61 | OK\n", 2),
+    (b"TRACE 2\nBEGIN | BEGUN 1\nSET 1 h61 h62 | OK\n", 3),
+    (b"TRACE 2\nRSCAN 1 h61 h62 1 | ROWS 0\n", 2),
+    (b"TRACE 2\nDELR 1 h61 h62 1 | ERR NOTX\n", 2),
+    (b"TRACE 2\nGET 1 h61 | DELETED 1\n", 2),
+    (b"TRACE 3\nSET 1 h61 | OK\n", 2),
+    (b"TRACE 3\nRSCAN 1 h62 h61 1 | ROWS 0\n", 2),
+    (b"TRACE 3\nDELR 1 h61 h62 1 | DELETED 01\n", 2),
 ];
 
 #[test]
@@ -92,6 +108,20 @@ fn version_3_has_the_lines_of_version_2(rt: HostRuntime) {
     let same = read_trace(rt.alloc(), STORED_IN_3).expect(&rt, "the text of a trace");
     assert!(rt; same.len() == 2 && same[0] == trace[0] && same[1] == trace[1]);
     assert!(rt; Version::Two.most_runs() == MAX_RUNS && Version::Three.most_runs() == LAST_RUN);
+    let text = trace_text(rt.alloc(), &same).expect(&rt, "memory");
+    assert!(rt; text.as_slice() == STORED);
+}
+
+#[test]
+fn version_3_is_written_where_it_is_needed(rt: HostRuntime) {
+    let trace = read_trace(rt.alloc(), SET_AND_DELETED).expect(&rt, "the text of a trace");
+    assert!(rt; trace.len() == 4);
+    let text = trace_text(rt.alloc(), &trace).expect(&rt, "memory");
+    assert!(rt; text.as_slice() == SET_AND_DELETED);
+    for (number, event) in trace.iter().enumerate() {
+        assert!(rt; needs_three(event) == (number < 3));
+    }
+    assert!(rt; Version::for_trace(&trace[3..]) == Version::Two);
 }
 
 #[test]

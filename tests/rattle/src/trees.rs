@@ -66,6 +66,23 @@ fn rows_of<I: PartIndex>(
     rows
 }
 
+// The same from the highest key down.
+fn rows_back_of<I: PartIndex>(
+    rt: &impl Abort,
+    alloc: Global,
+    index: &I,
+    lo: u64,
+    hi: u64,
+    max: u64,
+) -> Vec<(Key, Value)> {
+    let range = Range::new(Key::of_u64(lo), Key::of_u64(hi)).expect(rt, "in order");
+    let mut rows = Vec::new(alloc);
+    index
+        .copy_rows_back(1, range, max, &mut rows)
+        .expect(rt, "memory");
+    rows
+}
+
 // Whether both indexes give the same walks over the partition, of at most so many entries.
 fn same_walks<A: PartIndex, B: PartIndex>(a: &A, b: &B, part: u32, most: usize) -> bool {
     let mut at = Key::least();
@@ -154,6 +171,30 @@ fn a_tree_copies_rows_as_a_list(rt: HostRuntime) {
         let rows = rows_of(&rt, rt.alloc(), &tree, lo, hi, max);
         assert!(rt; rows.len() == count);
         assert!(rt; rows == rows_of(&rt, rt.alloc(), &list, lo, hi, max));
+    }
+}
+
+#[test]
+fn a_tree_copies_rows_back_as_a_list(rt: HostRuntime) {
+    let mut tree = BTree::new(rt.alloc()).expect(&rt, "memory");
+    let mut list = ListIndex::new(rt.alloc());
+    fill(&rt, &mut tree);
+    fill(&rt, &mut list);
+    for (lo, hi, max, count) in [
+        (40, 160, 999, 81),
+        (40, 160, 20, 20),
+        (0, 999, 999, 133),
+        (0, 999, 1, 1),
+        (100, 100, 9, 1),
+        (201, 999, 9, 0),
+    ] {
+        let rows = rows_back_of(&rt, rt.alloc(), &tree, lo, hi, max);
+        assert!(rt; rows.len() == count);
+        assert!(rt; rows == rows_back_of(&rt, rt.alloc(), &list, lo, hi, max));
+        let mut all = rows_of(&rt, rt.alloc(), &tree, lo, hi, 999);
+        all.reverse();
+        all.truncate(count);
+        assert!(rt; rows == all);
     }
 }
 

@@ -10,10 +10,10 @@ use Rattle.am_btree.proofs.read.copy_rows_in_leaf.Goals.{then-not-is_ghost+in_ok
 
 pub loop-at-init : goal.loop-at-init
 loop-at-init c = record {
-  room = c.reserve.ensures.capacity;
+  room = c.in_ok-reserve_rows.ensures.room;
   copied = subst (λ (l : Records). AreCopied c.args.leaf.now.entries c.args.part c.args.range c.args.max
       c.args.rows.now.items
-      l c.start_in_leaf-from.result) (sym c.reserve.ensures.items)
+      l c.start_in_leaf-from.result) (sym c.in_ok-reserve_rows.ensures.same)
       (none_copied c.args.leaf.now.entries c.args.part c.args.range c.args.max c.args.rows.now.items c.lo.ensures.value
       c.hi.ensures.value c.start_in_leaf-from.ensures.begins c.end_in_leaf-to.ensures.ends c.requires);
 }

@@ -1,4 +1,3 @@
-use Rattle.std.proofs.Common.{sym}
 use Rattle.am_parts.proofs.KeyLooks.{found_live, not_found}
 use Rattle.am_parts.proofs.key_look.live_in_one.Goals as goal
 

@@ -1,4 +1,4 @@
-use Rattle.std.proofs.Common.{◌∙◌, subst, sym, arith}
+use Rattle.std.proofs.Common.{◌∙◌, subst}
 use Rattle.std.proofs.lemmas.List.{take_all}
 use Rattle.am_parts.proofs.KeyLooks.{LivesInNone, found_live, found_none, lives_in_no_run, of_first_place}
 use Rattle.am_parts.proofs.key_look.live_in_place.Goals as goal

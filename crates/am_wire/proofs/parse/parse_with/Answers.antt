@@ -45,6 +45,12 @@ returns-in_err-range-in-Scan c = due verb.Scan c.args.verb c.args.fields _ c.in-
 pub returns-in_ok-range-in-Scan : goal.returns-in_ok-range-in-Scan
 returns-in_ok-range-in-Scan c = due verb.Scan c.args.verb c.args.fields _ c.in-Scan.is (search rules)
 
+pub returns-in_err-range-in-ScanBack : goal.returns-in_err-range-in-ScanBack
+returns-in_err-range-in-ScanBack c = due verb.ScanBack c.args.verb c.args.fields _ c.in-ScanBack.is (search rules)
+
+pub returns-in_ok-range-in-ScanBack : goal.returns-in_ok-range-in-ScanBack
+returns-in_ok-range-in-ScanBack c = due verb.ScanBack c.args.verb c.args.fields _ c.in-ScanBack.is (search rules)
+
 pub returns-in_err-key-in-Insert : goal.returns-in_err-key-in-Insert
 returns-in_err-key-in-Insert c = due verb.Insert c.args.verb c.args.fields _ c.in-Insert.is (search rules)
 
@@ -57,11 +63,25 @@ returns-in_err-key-in-Replace c = due verb.Replace c.args.verb c.args.fields _ c
 pub returns-in_ok-key-in-Replace : goal.returns-in_ok-key-in-Replace
 returns-in_ok-key-in-Replace c = due verb.Replace c.args.verb c.args.fields _ c.in-Replace.is (search rules)
 
+pub returns-in_err-key-in-Set : goal.returns-in_err-key-in-Set
+returns-in_err-key-in-Set c = due verb.Set c.args.verb c.args.fields _ c.in-Set.is (search rules)
+
+pub returns-in_ok-key-in-Set : goal.returns-in_ok-key-in-Set
+returns-in_ok-key-in-Set c = due verb.Set c.args.verb c.args.fields _ c.in-Set.is (search rules)
+
 pub returns-in_err-parse_one_key-in-Delete : goal.returns-in_err-parse_one_key-in-Delete
 returns-in_err-parse_one_key-in-Delete c = due verb.Delete c.args.verb c.args.fields _ c.in-Delete.is (search rules)
 
 pub returns-in_ok-parse_one_key-in-Delete : goal.returns-in_ok-parse_one_key-in-Delete
 returns-in_ok-parse_one_key-in-Delete c = due verb.Delete c.args.verb c.args.fields _ c.in-Delete.is (search rules)
+
+pub returns-in_err-range-in-DeleteRange : goal.returns-in_err-range-in-DeleteRange
+returns-in_err-range-in-DeleteRange c = due verb.DeleteRange c.args.verb c.args.fields _ c.in-DeleteRange.is
+    (search rules)
+
+pub returns-in_ok-range-in-DeleteRange : goal.returns-in_ok-range-in-DeleteRange
+returns-in_ok-range-in-DeleteRange c = due verb.DeleteRange c.args.verb c.args.fields _ c.in-DeleteRange.is
+    (search rules)
 
 pub returns-in_err-parse_records-in-Load : goal.returns-in_err-parse_records-in-Load
 returns-in_err-parse_records-in-Load c = at verb.Load c.args.verb c.args.fields _ c.in-Load.is
@@ -72,6 +92,18 @@ pub returns-in_ok-parse_records-in-Load : goal.returns-in_ok-parse_records-in-Lo
 returns-in_ok-parse_records-in-Load c = at verb.Load c.args.verb c.args.fields _ c.in-Load.is
     (brought (request_with verb.Load) (λ records. refl) (values_in some_records c.args.fields) c.parse_records.result _
     c.parse_records.ensures (search rules))
+
+pub returns-in_err-parse_records-in-Put : goal.returns-in_err-parse_records-in-Put
+returns-in_err-parse_records-in-Put c = at verb.Put c.args.verb c.args.fields _ c.in-Put.is
+    (brought (request_with verb.Put) (λ records. refl) (values_in some_records c.args.fields)
+    c.parse_records-in-Put.result _
+    c.parse_records-in-Put.ensures (search rules))
+
+pub returns-in_ok-parse_records-in-Put : goal.returns-in_ok-parse_records-in-Put
+returns-in_ok-parse_records-in-Put c = at verb.Put c.args.verb c.args.fields _ c.in-Put.is
+    (brought (request_with verb.Put) (λ records. refl) (values_in some_records c.args.fields)
+    c.parse_records-in-Put.result _
+    c.parse_records-in-Put.ensures (search rules))
 
 pub returns-in_err-parse_records-in-Stage : goal.returns-in_err-parse_records-in-Stage
 returns-in_err-parse_records-in-Stage c = at verb.Stage c.args.verb c.args.fields _ c.in-Stage.is

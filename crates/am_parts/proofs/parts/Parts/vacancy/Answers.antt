@@ -2,28 +2,22 @@ use Rattle.std.proofs.Common.{sym, ap, ◌∙◌, subst}
 use Rattle.std.specs.Prelude.{is_some}
 use Rattle.am_index.specs.Content.{live_value}
 use Rattle.am_parts.specs.Partitions.{IsVacancy, vacancy_over}
-use Rattle.am_parts.proofs.KeyLooks.{taken_in_final, taken_in_run, vacant}
+use Rattle.am_parts.proofs.KeyLooks.{stands_live, none_lives, of_none, vacant}
 use Rattle.am_parts.proofs.parts.Parts.vacancy.Goals as goal
-use Rattle.am_parts.proofs.parts.Parts.vacancy.Goals.{then-is_live-via-then-is_live}
-use Rattle.am_parts.proofs.parts.Parts.vacancy.Goals.{then-is_live-via-else-is_live+then-is_some}
 
-pub returns-then-is_live-clause-met : goal.returns-then-is_live-clause-met
-returns-then-is_live-clause-met g c =
-    let es = c.args.self.now.entries in
-    let key = c.args.key in
-    let sound = c.find-slot.ensures.sound in
-    elim c.then-is_live.branch [
-      | then-is_live-via-then-is_live w ↦ taken_in_final es key sound
-          (ap (λ o. is_some (live_value o)) (sym c.find-slot.ensures.found) ∙ sym c.is_live.ensures ∙ w.if-is_live.true)
-      | then-is_live-via-else-is_live+then-is_some w ↦ taken_in_run es key sound w.live_in_runs.result
-          w.live_in_runs.ensures.live (sym w.is_some.ensures ∙ w.if-is_some.true)
-    ]
+pub returns-in-Some-clause-met : goal.returns-in-Some-clause-met
+returns-in-Some-clause-met g c =
+    let live = c.in-Some.ensures.live in
+    stands_live c.find-slot.ensures.sound 0 c.in-Some.entry (sym c.find-slot.ensures.found ∙ live.0) live.1 live.2
+    live.3
 
 pub returns-clause-met : goal.returns-clause-met
 returns-clause-met g c =
     let es = c.args.self.now.entries in
     let key = c.args.key in
+    let sound = c.find-slot.ensures.sound in
+    let dead = ap (λ o. is_some (live_value o)) (sym c.find-slot.ensures.found) ∙
+    of_none c.live_at.result c.in_default.not-Some c.live_at.ensures.none in
     subst (IsVacancy es key) (sym (c.vacancy_over.ensures ∙ ap vacancy_over c.find-slot.ensures.found))
-    (vacant es key c.find-slot.ensures.sound c.live_in_runs.result
-    (ap (λ o. is_some (live_value o)) (sym c.find-slot.ensures.found) ∙ sym c.is_live.ensures ∙ c.if-is_live.false)
-    c.live_in_runs.ensures.absent (sym c.is_some.ensures ∙ c.if-is_some.false))
+    (vacant es key sound dead (of_none c.live_in_runs.result c.in_default-live_in_runs.not-Some
+    (none_lives es key sound c.live_in_runs.result dead c.live_in_runs.ensures.absent)))

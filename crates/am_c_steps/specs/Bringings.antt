@@ -1,0 +1,11 @@
+-- How records come in.
+use Rattle.am_record.specs.Plain.{Records}
+use Rattle.am_record.specs.declared.step.Op.{Op}
+use Rattle.am_record.specs.declared.step.Op.TheVariants as op
+use Rattle.am_c_steps.specs.declared.bringing.Bringing.{Bringing}
+use Rattle.am_c_steps.specs.declared.bringing.Bringing.TheVariants.{Load, Put}
+
+-- the operation that brings these in
+abbrev pub brings : Bringing → Records → Op
+brings Load pairs = op.Load pairs
+brings Put pairs = op.Put pairs

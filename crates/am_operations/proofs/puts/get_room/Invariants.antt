@@ -1,0 +1,14 @@
+use Rattle.std.proofs.Common.{◌≡◌, take}
+use Rattle.std.specs.List.{AllByRecursion}
+use Rattle.am_index.specs.Rooms.{KeepRoom}
+use Rattle.am_operations.specs.Updates.{HasPlace}
+use Rattle.am_operations.proofs.puts.get_room.Given as goal
+
+abbrev pub invariant-loop-update : goal.invariant-loop-update
+invariant-loop-update g l =
+    record {
+      entries : l.parts.entries ≡ l.fn.parts.entries;
+      runs : l.parts.runs ≡ l.fn.parts.runs;
+      rooms : KeepRoom l.fn.parts.roomy l.parts.roomy l.parts.entries;
+      done : AllByRecursion (HasPlace l.parts.entries l.parts.roomy) (take l.update-index l.updates);
+    }
