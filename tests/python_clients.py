@@ -290,7 +290,8 @@ class Odd:
 STILL = {b"REPLICA": b"ERR SYNTAX", b"BEGIN": b"BEGUN 1", b"ABORT": b"ABORTED", b"COMMIT": b"COMMITTED 1"}
 CALLS: Dict[bytes, Callable[[Any], Any]] = {
     b"GET": lambda tx: tx.get("a"), b"SCAN": lambda tx: list(tx), b"INS": lambda tx: tx.insert("a", "1"), b"DEL": lambda tx: tx.discard("a"),
-    b"REP": lambda tx: tx.update(a="1"), b"LOAD": lambda tx: tx.load({"a": "1"}), b"LOCK": lambda tx: tx.lock("a"), b"MARK": lambda tx: tx.mark(),
+    b"REP": lambda tx: tx.replace("a", "1"), b"SET": lambda tx: tx.update(a="1"), b"RSCAN": lambda tx: list(reversed(tx)),
+    b"DELR": lambda tx: tx.delete_range("a", "b"), b"PUT": lambda tx: tx.update((f"k{it}", "1") for it in range(65)), b"LOAD": lambda tx: tx.load({"a": "1"}), b"LOCK": lambda tx: tx.lock("a"), b"MARK": lambda tx: tx.mark(),
     b"BACK": lambda tx: tx.back(), b"COMMIT": lambda tx: None, b"BEGIN": lambda tx: None,
 }  # fmt: skip
 

@@ -203,8 +203,12 @@ def refusals(client: Any, cluster: Cluster) -> None:
     def set_many(prefix: str, number: int) -> Callable[[Any], Any]:
         return lambda tx: tx.update((f"{prefix}{at:04}", str(at)) for at in range(number))
 
+    def set_each(tx: Any) -> None:
+        for at in range(4097):
+            tx[f"n{at:04}"] = str(at)
+
     client.run(set_many("m", 2000))
-    raises("more operations than a transaction has", tiuvrokk.TooMany, lambda: client.run(set_many("n", 3000)))
+    raises("more operations than a transaction has", tiuvrokk.TooMany, lambda: client.run(set_each))
     found = client.run(lambda tx: list(tx.scan("m", "n~")))
     wanted("records", found, [(b"m%04d" % number, b"%d" % number) for number in range(2000)])
     never_conflicts(client, cluster)
@@ -228,7 +232,7 @@ def never_conflicts(client: Any, cluster: Cluster) -> None:
         tx.discard("s5")
 
     client.run(set_only, tries=1)
-    wanted("sends", [it for it in asked if it], [204])
+    wanted("sends", [it for it in asked if it], [104])
     wanted("what was set", client.run(lambda tx: tx.count("s", "s~")), 99)
 
 
