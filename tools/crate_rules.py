@@ -127,15 +127,21 @@ def faults_of_widths() -> Iterator[str]:
                 yield f"{os.path.relpath(path, TOP)}:{number}: a line of {len(line)} characters"
 
 
+# Operations whose names stand for nothing else.
+OPERATIONS = ("Replace", "Set", "Put", "ScanBack", "DeleteRange")
+
+
 def operation_files() -> Dict[str, List[str]]:
-    """The files of each kind that go through the operations one by one: they name both a write and a savepoint, outside their comments.
-    Worked traces and tests don't count."""
+    """The files of each kind that name the operation which most files name, outside their comments. Worked traces and tests don't
+    count."""
     worked = re.compile(r"crates/(am_memory_tests|am_serial/specs/Rows|am_serial/proofs/worked_)")
-    found: Dict[str, List[str]] = {}
-    for kind, folder in {"sources": "src", "specifications": "specs", "files of proofs": "proofs"}.items():
-        files = [os.path.relpath(it, TOP) for it in sources(folder)]
-        found[kind] = [it for it in files if not worked.match(it) and names_each(text_of(it), "Replace", "Mark")]
-    return found
+    kinds = {"sources": "src", "specifications": "specs", "files of proofs": "proofs"}
+    texts = {kind: [(os.path.relpath(it, TOP), text_of(it)) for it in sources(folder)] for kind, folder in kinds.items()}
+    found = [
+        {kind: [it for it, text in files if not worked.match(it) and names_each(text, name)] for kind, files in texts.items()}
+        for name in OPERATIONS
+    ]
+    return max(found, key=lambda files: sum(map(len, files.values())))
 
 
 def names_each(text: str, *names: str) -> bool:
@@ -146,6 +152,6 @@ def names_each(text: str, *names: str) -> bool:
 
 def faults_of_operations() -> Iterator[str]:
     """A new operation touches few files."""
-    for (kind, files), most in zip(operation_files().items(), (8, 10, 18)):
+    for (kind, files), most in zip(operation_files().items(), (19, 22, 20)):
         if len(files) > most:
-            yield f"tools/operation_files.py: {len(files)} {kind} go through the operations one by one, and {most} may"
+            yield f"tools/operation_files.py: {len(files)} {kind} name one operation, and {most} may"

@@ -1,5 +1,5 @@
 #!/usr/bin/env python3
-"""The files that a new operation touches, since they go through the operations one by one: tools/operation_files.py."""
+"""The files that a new operation touches: those that name the operation which most files name. tools/operation_files.py."""
 
 import sys
 
