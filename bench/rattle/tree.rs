@@ -2,7 +2,7 @@
 
 use crate::keys::{value_of, weight};
 use am_btree::BTree;
-use am_index::PartIndex;
+use am_index::{Hint, PartIndex};
 use am_parts::Parts;
 use am_record::{Entry, Key, NoMemory, Range};
 use am_scan::scan;
@@ -22,7 +22,7 @@ fn entry(key: Key) -> Entry {
 fn insert(tree: &mut BTree, entry: Entry) -> Result<bool, NoMemory> {
     let is_new = tree.find(entry.part, entry.key).is_none();
     if is_new {
-        tree.insert(entry)?;
+        tree.insert(entry, Hint::none())?;
     }
     Ok(is_new)
 }
@@ -52,7 +52,7 @@ pub(crate) fn fill_found(tree: &mut BTree, keys: &[Key]) -> Result<u64, NoMemory
 // Adds the entry, unless its place is taken or its key is live elsewhere.
 fn add(parts: &mut Parts<BTree>, entry: Entry) -> Result<(), NoMemory> {
     if parts.find(entry.part, entry.key).is_none() && parts.place_of(entry.key).is_none() {
-        parts.add(entry)?;
+        parts.add(entry, Hint::none())?;
     }
     Ok(())
 }

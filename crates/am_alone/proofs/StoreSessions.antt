@@ -53,7 +53,7 @@ store_goes sound = record {
 
 -- ---- memory is refused only to steps that may want it
 
--- what goes on rightly from the second state goes on rightly behind these events from the first
+-- what goes on rightly from the second state goes on rightly after these events from the first
 abbrev NeedGoes : Solo → Trace → Solo → Type 0
 NeedGoes old events new = (tail : Trace) → EachRefusesForNeed new.kept tail →
     EachRefusesForNeed old.kept (events ++ tail)

@@ -6,6 +6,7 @@ use Rattle.am_record.specs.declared.step.Step.{Step}
 use Rattle.am_record.specs.declared.step.Reply.{Reply}
 use Rattle.am_record.specs.declared.step.Reply.TheVariants.{Refused}
 use Rattle.am_record.specs.declared.step.Refusal.TheVariants.{NoMemory}
+use Rattle.am_record.specs.Limits.{max_runs}
 use Rattle.am_serial.specs.Trace.{Trace}
 use Rattle.am_serial.specs.Legal.{IsLegal}
 use Rattle.am_sound.specs.Right.{IsSoundStore}
@@ -71,8 +72,8 @@ solo_meaning = record {
 -- are said, but where memory was refused. The store refused memory only to steps that may want it.
 pub record IsSpoken (auto : ℕ) (exchanges : List Exchange) (torn : Option Exchange) (trace : Trace) : Type 0 where
   pub answers : AnswersAlone auto exchanges torn trace
-  pub sound : IsSoundStore 65535 trace
-  pub legal : IsLegal 65535 trace
+  pub sound : IsSoundStore max_runs trace
+  pub legal : IsLegal max_runs trace
   pub says : Says (with_torn exchanges torn)
-  pub memory : EachRefusesForNeed (empty_state 65535) trace
+  pub memory : EachRefusesForNeed (empty_state max_runs) trace
   pub lines : All (λ (e : Exchange). IsOneLine (response_text e.1)) (with_torn exchanges torn)

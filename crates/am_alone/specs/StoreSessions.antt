@@ -12,7 +12,7 @@ Spoke comes holds auto s k s' k' end =
     EndsBy (λ bytes. Took comes s bytes s') (λ text. Gave holds k text k') (λ text. Unit {0}) (comes s' [])
     (IsSpoken auto) (Unit {0}) end
 
--- over bytes in memory, of which some are left, and what was written stands behind what stood there before
+-- over bytes in memory, of which some are left, and what was written stands after what stood there before
 abbrev pub WroteFor : ℕ → List ℕ → List ℕ → List ℕ → List ℕ → End → Type 0
 WroteFor auto bytes left before after end =
     EndsBy (λ taken. bytes ≡ taken ++ left) (λ text. after ≡ before ++ text) (λ text. Unit {0}) (left ≡ [])

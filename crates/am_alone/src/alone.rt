@@ -1,5 +1,6 @@
 //! A session on a store of its own.
 
+ghost use Rattle.am_record.specs.Limits.{max_limit};
 ghost use Rattle.std.specs.Prelude.{◌≡◌, ◌+◌, ◌^◌, ◌<◌, ◌≤◌, false};
 ghost use Rattle.am_session.specs.ServedSessions.{read_failures, write_failures, IsSentOn};
 ghost use Rattle.am_alone.specs.StoreSessions.{Spoke, WroteFor};
@@ -31,7 +32,7 @@ pub fn serve_alone<W: Wait + Clock, K: Sink, S: AnsweredSource<K>>(
     requires source_countable { S.failures source.old < 2 ^ 63 }
     requires sink_countable { K.failures sink.old < 2 ^ 63 }
     requires sent { K.pending sink.old ≡ false }
-    requires limit { auto ≤ 64 }
+    requires limit { auto ≤ max_limit }
     ensures spoke { Spoke S.comes K.holds auto source.old sink.old source.new sink.new result }
     ensures sent { IsSentOn result (K.pending sink.new ≡ false) }
     ensures source_failures { S.failures source.new ≡ S.failures source.old + read_failures result }
@@ -59,7 +60,7 @@ pub fn serve_in_memory<W: Wait + Clock>(
     requires source_countable { source.old.failures < 2 ^ 63 }
     requires sink_countable { sink.old.failures < 2 ^ 63 }
     requires sent { sink.old.pending ≡ false }
-    requires limit { auto ≤ 64 }
+    requires limit { auto ≤ max_limit }
     ensures wrote { WroteFor auto source.old.rest source.new.rest sink.old.bytes sink.new.bytes result }
     ensures sent { IsSentOn result (sink.new.pending ≡ false) }
     ensures source_failures { source.new.failures ≡ source.old.failures + read_failures result }

@@ -1,5 +1,6 @@
 //! A store as its only session sees it.
 
+ghost use Rattle.am_record.specs.Limits.{max_runs};
 ghost use Rattle.std.specs.Prelude.{◌≡◌, None, IfOk};
 ghost use Rattle.am_sound.specs.StoreState.{empty_state};
 ghost use Rattle.am_alone.specs.Solo.{solo_meaning};
@@ -35,7 +36,7 @@ impl Model for SoloStore {
 
 impl SoloStore {
     pub(crate) fn new(alloc: Global, hash: HashKey) -> Result<SoloStore, NoMemory>
-        ensures { IfOk result (λ solo. solo ≡ record { kept = empty_state 65535; active = None }) }
+        ensures { IfOk result (λ solo. solo ≡ record { kept = empty_state max_runs; active = None }) }
     {
         let store = Store::open(alloc, BTree::new(alloc)?, hash)?;
         Ok(SoloStore {

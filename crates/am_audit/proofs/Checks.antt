@@ -27,7 +27,7 @@ use Rattle.am_audit.proofs.OwnMoments.{own_moment, stands_own, takes_there, flaw
 use Rattle.am_audit.proofs.Progresses.{stands_on}
 use Rattle.am_audit.proofs.Lifts.{goes_on, is_first}
 
--- a fault is one of what goes on behind it too
+-- a fault is one of what goes on after it too
 pub still_faulty : (most_runs : ℕ) (seen more : Trace) (fault : Fault) → IsTrueFault most_runs seen fault →
     IsTrueFault most_runs (seen ++ more) fault
 still_faulty most_runs seen more (Wrong line kind) f = record {
@@ -129,7 +129,7 @@ one_more most_runs a b seen step reply h most same so_far = record {
   so_far = so_far;
 }
 
--- events behind a fault change nothing
+-- events after a fault change nothing
 pub stays_wrong : (seen more : Trace) (p : Checker) (fault : Option Fault) → (fault ≡ None → ⊥) →
     IsSoFar fault p seen → IsSoFar fault p (seen ++ more)
 stays_wrong seen more p None some h = absurd (some refl)

@@ -35,7 +35,7 @@ middle_answer [] op reply rest d e = (reply_parts _ _ _ _ e).0
 middle_answer (a ∷ done) op reply rest d e = middle_answer done op reply rest (draft_after a.0 d)
     (reply_parts _ _ _ _ e).1
 
--- the body has the operation between those before it and those behind it
+-- the body has the operation between those before it and those after it
 body_split : (earlier later : Trace) (t : ℕ) (op : Op) (reply : Reply) → effect (Do t op) reply ≡ Answers t op reply →
     body (effects (earlier ++ (Do t op, reply) ∷ later)) t ≡ body (effects earlier) t ++
     (op, reply) ∷ body (effects later) t

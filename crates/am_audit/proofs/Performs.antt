@@ -55,7 +55,7 @@ not_full full s t op none =
     (rest_of_none (nat_le max_ops (length (body_in s.active t))) TooManyOps _
     (rest_of_none (not (is_open s.active t)) NoSuchTx _ none))))
 
--- the runs that are counted behind it are as many as may be at most
+-- the runs that are counted after it are as many as may be at most
 pub made_fits : (most_runs runs bound : ℕ) (s : State) (t : ℕ) (m : PlainMap) (op : Op) (reply : Reply) →
     due_early (is_full most_runs runs reply) s t op ≡ None → most_runs < bound → runs < bound →
     runs + runs_made m op reply < bound

@@ -56,7 +56,7 @@ pub answers_at-push : (trace : Trace) (e : Event) (t : ℕ) → answers_at (trac
 answers_at-push trace e t = answers_from-push trace 0 t e ∙ ap (λ k. answers_at trace t ++ added k t (effect e.0 e.1))
     (let same : 0 + length trace ≡ length trace = omega arith in same)
 
--- the audit stands behind the event where it stands at what its effect makes
+-- the audit stands after the event where it stands at what its effect makes
 pub stands_behind : (p : Checker) (here : Progress) (step : Step) (reply : Reply) (e : Effect) → effect step reply ≡ e →
     IsAt p (progress_after here e) → IsAt p (progress_after here (effect step reply))
 stands_behind p here step reply e is h = subst (λ x. IsAt p (progress_after here x)) (sym is) h

@@ -8,7 +8,7 @@ use Rattle.am_audit.specs.declared.fault.Fault.{Fault}
 use Rattle.am_audit.specs.declared.checker.Checker.{Checker}
 use Rattle.am_audit.specs.declared.trace_audit.Audit.{Audit}
 
--- the events are legal and the audit stands behind them, or they have the fault
+-- the events are legal and the audit stands after them, or they have the fault
 abbrev pub IsSoFar : Option Fault → Checker → Trace → Type 0
 IsSoFar None checker seen = IsAt checker (progress_of seen) × IsLegal checker.most_runs seen
 IsSoFar (Some fault) checker seen = IsTrueFault checker.most_runs seen fault

@@ -115,7 +115,7 @@ pub record IsRightIn (most_runs : ℕ) (s : State) (step : Step) (reply : Reply)
   pub said : IsRightOf most_runs s step reply
   pub next : NextIn s (effect step reply)
 
--- the event is right, and the audit stands behind it
+-- the event is right, and the audit stands after it
 pub record TakesEvent (most_runs : ℕ) (here : Progress) (step : Step) (reply : Reply) (p : Checker) : Type 0 where
   pub right : IsRightIn most_runs here.state step reply
   pub stands : IsAt p (progress_after here (effect step reply))

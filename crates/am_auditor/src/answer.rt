@@ -10,7 +10,7 @@ use am_sink::{Failed, Sink};
 use std::alloc::Global;
 
 /// Writes what is asked for of a stored trace: the line that says how its text is judged, or the records that it
-/// leaves. Where its run isn't ended, what stands behind the text's last LF is left out. Answers the program's status.
+/// leaves. Where its run isn't ended, what stands after the text's last LF is left out. Answers the program's status.
 ///
 /// # Errors
 /// Failed, where the sink failed once; a beginning of it went out.

@@ -57,7 +57,7 @@ fn records_text(alloc: Global, records: &[(Key, Value)]) -> Result<Vec<u8>, NoMe
     Ok(text)
 }
 
-// Puts a record's line behind a text. Where memory was refused, the text is no use.
+// Puts a record's line after a text. Where memory was refused, the text is no use.
 fn push_line(text: &mut Vec<u8>, pair: &(Key, Value)) -> Result<(), NoMemory>
     ensures { OnOk result (text.new.items ≡ text.old.items ++ record_line pair.now) }
 {

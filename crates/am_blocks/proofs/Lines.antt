@@ -46,7 +46,7 @@ module _ (b c : ℕ) (m : PlainMap) where
       ap (λ early. or_else early (lock_refusal None (is_one_too_many (locks_of own) (lock_of op))))
       (same_refusal (length own) r op room)
 
-  -- how many runs there are behind an operation
+  -- how many runs there are after an operation
   abbrev runs_by : Option Refusal → ℕ → List Op → Op → ℕ
   runs_by None r own op = r + runs_made (left own m) op (answer op (left_on own (fresh m)))
   runs_by (Some why) r own op = r

@@ -29,7 +29,7 @@ request_of (Stages records) = Stage records
 abbrev pub whole : List Line → Request → List ParsedLine
 whole lines last = Asked Begin ∷ (map (λ line. Asked (request_of line)) lines ++ Asked last ∷ [])
 
--- what waits behind a line that stages, and behind all of them
+-- what waits after a line that stages, and after all of them
 abbrev pub staged_by : Records → Records → Records
 staged_by staged records = cond (may_wait staged records) (staged ++ records) staged
 

@@ -1,4 +1,4 @@
--- Records of a run, put behind all entries one after another and taken out again.
+-- Records of a run, put after all entries one after another and taken out again.
 use Rattle.std.proofs.Common.{◌≡◌, ℕ, zero, suc, ◌<◌, List, [], ◌∷◌, ◌++◌, length, get_or, take, None, refl, sym, ap}
 use Rattle.std.proofs.Common.{◌∙◌, subst, arith}
 use Rattle.std.specs.Prelude.{IsSome, is_some}

@@ -63,7 +63,7 @@ below_bound None x m low from = absurd from
 below_bound (Some b) x m low from = below_from (place_of x) (separator_place b) m
     (turned_greater (separator_place b) (place_of x) (not_reached _ low)) from
 
--- what goes behind some entries of a list, and before others or below the bound, goes among them
+-- what goes after some entries of a list, and before others or below the bound, goes among them
 pub among_gap : (es : List Entry) (bound : Option Separator) (x : Entry) (i : ℕ) → IsGapFor es x.part x.key i → 0 < i →
     (i < length es) ⊎ (is_below bound x ≡ true) → GoesAmong es bound x
 among_gap es bound x i gap some end = record {
@@ -101,7 +101,7 @@ pub some_inserted : (xs es : List Entry) → 0 < length es → 0 < length (all_i
 some_inserted [] es some = some
 some_inserted (x ∷ xs) es some = some_inserted xs (insert_entry es x) (insert_some es x)
 
--- ---- a list that goes on before and behind
+-- ---- a list that goes on before and after
 
 inserted_front : (xs es ys : List Entry) → AllByRecursion (λ x. AllAbove (place_of x) ys) xs →
     all_inserted xs (es ++ ys) ≡ all_inserted xs es ++ ys
@@ -123,7 +123,7 @@ each_above es (y ∷ ys) rising = (below_itself es y ys rising, each_above es ys
 abbrev AreFrom : Option Separator → List Entry → Type 0
 AreFrom bound ys = AllByRecursion (λ y. IsFrom bound (place_of y)) ys
 
--- those behind, from the bound on, are above what goes among the others
+-- those after, from the bound on, are above what goes among the others
 above_among : (es ys : List Entry) (bound : Option Separator) (x : Entry) → IsRising (es ++ ys) → AreFrom bound ys →
     GoesAmong es bound x → AllAbove (place_of x) ys
 above_among es ys bound x rising from b =
@@ -213,7 +213,7 @@ parted_among (l ∷ ls) (c ∷ ks) (suc i) k k' a lt here end from xs among h =
 
 -- ---- where a child ends
 
--- what follows the child lies from its bound on, and so does what lies behind all of the node and from its bound on
+-- what follows the child lies from its bound on, and so does what lies after all of the node and from its bound on
 pub record IsEnd (ls : List Separator) (ks : List Shape) (i : ℕ) (bound end : Option Separator) : Type 0 where
   entries : AreFrom end (all_entries (drop (suc i) ks))
   separators : AllByRecursion (λ m. IsFrom end (separator_place m)) (drop (suc i) ls)
@@ -291,7 +291,7 @@ pub inserted_both : (xs ys es : List Entry) → all_inserted (xs ++ ys) es ≡ a
 inserted_both [] ys es = refl
 inserted_both (x ∷ xs) ys es = inserted_both xs ys (insert_entry es x)
 
--- what stood before stands behind an insertion
+-- what stood before stands after an insertion
 pub still_stands : (xs es : List Entry) (part : ℕ) (key : OrderedKey) → IsSome (find es part key) →
     IsSome (find (all_inserted xs es) part key)
 still_stands xs es part key stands = by_found (find (all_inserted xs es) part key) refl

@@ -22,8 +22,8 @@ use Rattle.am_record.proofs.Orderings.{less_or_greater}
 use Rattle.am_record.proofs.PlaceOrder.{turned_less, lower_part}
 use Rattle.am_btree.specs.declared.separator.Separator.{Separator}
 use Rattle.am_btree.specs.Separators.{separator_place, SeparatorsRise, IsReach}
-use Rattle.am_btree.specs.Fronts.{short_front, place_front, fronts_of}
-use Rattle.am_btree.proofs.SeparatorReach.{reached_to, reached_all}
+use Rattle.am_btree.specs.Fronts.{short_front, place_front, fronts_of, FrontsRise}
+use Rattle.am_btree.proofs.SeparatorReach.{reached_to, reached_all, reached_no_further}
 
 -- ---- where the list is changed
 
@@ -99,6 +99,10 @@ front_most p = ⊎_elim (λ e. let low = ltb-true p.0 65535 e in
     omega (arith, low, front-low p low, short_most (key_front p.1)))
     (λ e. omega (arith, front-high p (ltb-false p.0 65535 e))) (cases_Bool (nat_lt p.0 65535))
 
+as_rise : (fs : List ℕ) → NeverFalls (λ n. n) fs → FrontsRise fs
+as_rise [] r = tt
+as_rise (f ∷ fs) r = (r.0, as_rise fs r.1)
+
 module _ (law : (k l : OrderedKey) → key_front k < key_front l → key_cmp k l ≡ Less) where
   -- in partitions below the last
   among : (a b : Place) → a.0 < 65535 → b.0 < 65535 → place_front a < place_front b →
@@ -163,6 +167,9 @@ module _ (law : (k l : OrderedKey) → key_front k < key_front l → key_cmp k l
     fronts_rise ls r.1,
   )
 
+  pub their_fronts_rise : (ls : List Separator) (fs : List ℕ) → SeparatorsRise ls → fs ≡ fronts_of ls → FrontsRise fs
+  their_fronts_rise ls fs r theirs = subst FrontsRise (sym theirs) (as_rise (fronts_of ls) (fronts_rise ls r))
+
   module _ (p : Place) where
     abbrev AreLower : List Separator → Type 0
     AreLower ls = AllByRecursion (λ l. front l < place_front p) ls
@@ -209,6 +216,25 @@ module _ (law : (k l : OrderedKey) → key_front k < key_front l → key_cmp k l
           let lt : front s < place_front p = omega (arith, below, is, its) in
           reached_all p ls (length fs) long (reached_to p ls rise j s within (get_or_default ls j d s within)
           (ap is_le (places_follow (separator_place s) p lt)) (length fs) (omega (arith, last)))
+
+      -- where a front is lower and the next one is higher, so many are reached
+      pub reach_between : (j : ℕ) → suc j < length fs → get_or fs j 0 < f → f < get_or fs (suc j) 0 →
+          IsReach ls p.0 p.1 (suc j)
+      reach_between j more below above =
+          let wide : length fs ≡ length ls = ap length theirs ∙ length-map ls front in
+          let within : j < length ls = omega (arith, more, wide) in
+          let within' : suc j < length ls = omega (arith, more, wide) in
+          let d = some_item ls j within in let s = get_or ls j d in
+          let d' = some_item ls (suc j) within' in let s' = get_or ls (suc j) d' in
+          let is : get_or fs j 0 ≡ front s = ap (λ l. get_or l j 0) theirs ∙ get_or-map front ls j d 0 within in
+          let is' : get_or fs (suc j) 0 ≡ front s' =
+          ap (λ l. get_or l (suc j) 0) theirs ∙ get_or-map front ls (suc j) d' 0 within' in
+          let lt : front s < place_front p = omega (arith, below, is, its) in
+          let gt : place_front p < front s' = omega (arith, above, is', its) in
+          reached_no_further p ls rise (suc j) s' within' (get_or_default ls (suc j) d' s' within')
+          (ap is_le (turned_less p (separator_place s') (places_follow p (separator_place s') gt)))
+          (reached_to p ls rise j s within (get_or_default ls j d s within)
+          (ap is_le (places_follow (separator_place s) p lt)) (suc j) (omega arith))
 
       module _ (n m : ℕ) (first : n ≡ count_by (λ x. nat_lt x f) fs)
           (next : m ≡ prefix_len (λ x. nat_eq x f) (drop n fs)) where

@@ -1,4 +1,4 @@
--- Entries put behind those of a node's last child.
+-- Entries put after those of a node's last child.
 use Rattle.std.proofs.Common.{◌≡◌, ◌≢◌, ℕ, zero, suc, ◌+◌, ◌<◌, List, [], ◌∷◌, ◌++◌, length, get_or, set, refl, sym, ap}
 use Rattle.std.proofs.Common.{◌∙◌, subst, append-nil, append_assoc, length-append, length-set, arith}
 use Rattle.std.specs.declared.cmp.Ordering.TheVariants.{Less}
@@ -17,7 +17,7 @@ use Rattle.am_btree.specs.Nodes.{all_entries, depth_of, AreParted, IsInner}
 use Rattle.am_btree.proofs.ChildHalves.{depth_level, inner_with}
 use Rattle.am_btree.proofs.ChildEdits.{all_set}
 
--- behind an entry that is not below a place stands none below it
+-- after an entry that is not below a place stands none below it
 none_below_more : (l : Place) (es more : List Entry) → 0 < length es → NoneBelow l es → IsRising (es ++ more) →
     NoneBelow l (es ++ more)
 none_below_more l [] more some n rising = absurd (omega arith)

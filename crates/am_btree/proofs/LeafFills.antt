@@ -1,4 +1,4 @@
--- Records of a run, put behind a leaf's entries one after another.
+-- Records of a run, put after a leaf's entries one after another.
 use Rattle.std.proofs.Common.{◌≡◌, ℕ, zero, suc, ◌+◌, ◌-◌, ◌≤◌, List, [], ◌∷◌, ◌++◌, length, take, drop, refl, sym, ap}
 use Rattle.std.proofs.Common.{◌∙◌, subst, append_assoc, arith, length-append}
 use Rattle.std.proofs.lemmas.List.{take_all, length-drop}
@@ -48,7 +48,7 @@ module _ (part : ℕ) where
     left_is : left ≡ drop i rs
     left_is = take_all (length rs - i) (drop i rs) (omega (arith, length-drop i rs))
 
-    -- they go behind what stands
+    -- they go after what stands
     pub left_rise : {now : List Entry} → now ≡ so_far → IsRising (now ++ run_entries part left)
     left_rise is = subst (λ l. IsRising (l ++ run_entries part left)) (sym is)
         (subst (λ qs. IsRising (so_far ++ run_entries part qs)) (sym left_is) rest_rises)

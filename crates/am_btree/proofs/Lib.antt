@@ -14,6 +14,7 @@ pub mod LastChild
 pub mod LeafFills
 pub mod Leaves
 pub mod Fronts
+pub mod GroupedFronts
 mod EndPlaces
 pub mod Seeks
 pub mod WiderRooms

@@ -32,7 +32,7 @@ use Rattle.am_btree.proofs.ChildInserts.{in_place, all_in_place}
 use Rattle.am_btree.proofs.ChildHalves.{all_entries-append, all_entries_cut}
 use Rattle.am_btree.proofs.ChildEdits.{remove_set}
 
--- ---- what stands in two lists, one behind the other
+-- ---- what stands in two lists, one after the other
 
 module _ (part : ℕ) (key : OrderedKey) where
   abbrev p : Place
@@ -355,7 +355,7 @@ leaves_keep old new right has right_has more right_more = record {
     by part key wide (inr there) = among_next part key (leaf_roomy new) (leaf_roomy right)
         (among_wide right part key (omega (arith, right_more, wide)) there)
 
--- a leaf that stays as it is, and a new one behind it
+-- a leaf that stays as it is, and a new one after it
 pub leaf_and_next : (old right : Seen) → ValuesHaveRoom old → ValuesHaveRoom right →
     RoomIsSplit (leaf_shape old) (leaf_shape old) (leaf_shape right)
 leaf_and_next old right has right_has = record {
@@ -415,7 +415,7 @@ cut_keeps m ks lower upper front back roomed =
 
 -- ---- one edit after another
 
--- where only others were put behind the entries between them
+-- where only others were put after the entries between them
 pub keeps_further : (old mid new : Shape) → IsRoomed old → (more : List Entry) → mid.entries ≡ old.entries ++ more →
     KeepsRoom old mid → KeepsRoom mid new → KeepsRoom old new
 keeps_further old mid new roomed more is first second =

@@ -20,7 +20,7 @@ abbrev pub IsFrom : Option Separator → Place → Type 0
 IsFrom None m = ⊥
 IsFrom (Some bound) m = place_cmp m (separator_place bound) ≢ Less
 
--- the entry goes among them, behind one of them and below the bound: it is above each place that none of them is below,
+-- the entry goes among them, after one of them and below the bound: it is above each place that none of them is below,
 -- and below each that all are below and that lies from the bound on
 pub record GoesAmong (es : List Entry) (bound : Option Separator) (x : Entry) : Type 0 where
   pub above : (l : Place) → NoneBelow l es → place_cmp l (place_of x) ≡ Less

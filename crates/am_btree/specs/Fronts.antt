@@ -1,5 +1,6 @@
 -- The fronts of places, which follow their order.
-use Rattle.std.specs.Prelude.{ℕ, ◌+◌, ◌-◌, ◌*◌, ◌/◌, ◌^◌, List, map, min, nat_lt, if◌then◌else◌}
+use Rattle.std.specs.Prelude.{ℕ, ◌+◌, ◌-◌, ◌*◌, ◌/◌, ◌^◌, List, [], ◌∷◌, ◌≤◌, map, min, nat_lt, if◌then◌else◌}
+use Rattle.std.specs.List.{AllByRecursion}
 use Rattle.am_record.specs.EntryOrder.{Place}
 use Rattle.am_record.specs.KeyFront.{key_front}
 use Rattle.am_btree.specs.declared.separator.Separator.{Separator}
@@ -17,3 +18,8 @@ place_front p = if nat_lt p.0 65535 then p.0 * 2 ^ 48 + short_front (key_front p
 -- those of separators, one for each
 abbrev pub fronts_of : List Separator → List ℕ
 fronts_of separators = map (λ l. place_front (separator_place l)) separators
+
+-- no front is below one before it
+abbrev pub FrontsRise : List ℕ → Type 0
+FrontsRise [] = Unit {0}
+FrontsRise (n ∷ ns) = AllByRecursion (λ m. n ≤ m) ns × FrontsRise ns

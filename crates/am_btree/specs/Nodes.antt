@@ -5,6 +5,7 @@ use Rattle.std.specs.Vec.{vec_capacity}
 use denote.Param.Weighed.{most}
 use Rattle.am_record.specs.declared.entry.Entry.{Entry}
 use Rattle.am_record.specs.EntryOrder.{Place, place_of}
+use Rattle.am_record.specs.Limits.{max_value_bytes}
 use Rattle.am_index.specs.Entries.{IsRising}
 use Rattle.am_index.specs.Places.{AllBelow, NoneBelow}
 use Rattle.am_leaf.specs.LeafCode.{Seen, ValuesHaveRoom}
@@ -30,7 +31,7 @@ depth_of ks = most (λ (k : Shape). k.depth + 1) ks
 
 -- all places of a leaf have room for any value, or none has
 abbrev pub leaf_roomy : Seen → List Place
-leaf_roomy l = if nat_lt l.value_room 64 then [] else map (λ (e : Entry). place_of e) l.entries
+leaf_roomy l = if nat_lt l.value_room max_value_bytes then [] else map (λ (e : Entry). place_of e) l.entries
 
 abbrev pub leaf_shape : Seen → Shape
 leaf_shape l = record { depth = 0; entries = l.entries; roomy = leaf_roomy l }

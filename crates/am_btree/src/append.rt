@@ -7,12 +7,13 @@ ghost use Rattle.am_index.specs.Runs.{run_entries};
 ghost use Rattle.am_btree.specs.Rooms.{KeepsRoom};
 
 use crate::node::Subtree;
+use am_index::Hint;
 use am_record::{Entry, Key, NoMemory, Value};
 use std::alloc::Global;
 
 impl Subtree {
     /// Appends the records of a run, all live, in a partition above those of all entries. One is inserted, which makes
-    /// a new leaf where the last one is full; as many of the next ones as its leaf has room for go in behind it, by one
+    /// a new leaf where the last one is full; as many of the next ones as its leaf has room for go in after it, by one
     /// walk and with no search; and so on. Where memory is refused, those that went in are taken out again, the newest
     /// first.
     pub(crate) fn append(
@@ -38,7 +39,7 @@ impl Subtree {
                 value,
                 is_ghost: false,
             };
-            if self.insert(alloc, &entry).is_err() {
+            if self.insert(alloc, &entry, Hint::none()).is_err() {
                 break;
             }
             added += 1;

@@ -6,7 +6,7 @@ ghost use Rattle.am_index.specs.Places.{only_of};
 use crate::insert::Obstacle;
 use crate::node::Subtree;
 use crate::read::Start;
-use am_index::{Batch, PartIndex};
+use am_index::{Batch, Hint, PLACES_AT_ONCE, PartIndex};
 use am_record::{Entry, Key, NoMemory, Range, Value};
 use std::alloc::Global;
 use std::marker::Model;
@@ -72,7 +72,15 @@ impl PartIndex for BTree {
     ghost roomy = { λ t. t.roomy };
 
     fn find(&self, part: u32, key: Key) -> Option<(Value, bool)> {
-        self.root.find(part, key)
+        self.root.look(part, key, Hint::none()).0
+    }
+
+    fn look(&self, part: u32, key: Key, hint: Hint) -> (Option<(Value, bool)>, Hint) {
+        self.root.look(part, key, hint)
+    }
+
+    fn hints(&self, places: &[(u32, Key)]) -> [Hint; PLACES_AT_ONCE] {
+        self.root.hints(places)
     }
 
     fn next_from(&self, part: u32, key: Key) -> Option<Entry> {
@@ -97,8 +105,9 @@ impl PartIndex for BTree {
         range: Range,
         max: u64,
         rows: &mut Vec<(Key, Value)>,
+        hint: Hint,
     ) -> Result<(), NoMemory> {
-        self.root.copy_rows(part, range, max, rows)
+        self.root.copy_rows(part, range, max, rows, hint)
     }
 
     fn copy_rows_back(
@@ -107,8 +116,9 @@ impl PartIndex for BTree {
         range: Range,
         max: u64,
         rows: &mut Vec<(Key, Value)>,
+        hint: Hint,
     ) -> Result<(), NoMemory> {
-        self.root.copy_rows_back(part, range, max, rows)
+        self.root.copy_rows_back(part, range, max, rows, hint)
     }
 
     fn next_any(&self, part: u32, key: Key) -> Option<Entry> {
@@ -119,8 +129,8 @@ impl PartIndex for BTree {
         self.root.next_ghost(part, key)
     }
 
-    fn insert(&mut self, entry: Entry) -> Result<(), NoMemory> {
-        match self.root.insert(self.alloc, &entry) {
+    fn insert(&mut self, entry: Entry, hint: Hint) -> Result<(), NoMemory> {
+        match self.root.insert(self.alloc, &entry, hint) {
             Ok(()) => Ok(()),
             Err(Obstacle::NoMemory) => Err(NoMemory),
             Err(Obstacle::Taken) => unreachable!(),
@@ -128,12 +138,12 @@ impl PartIndex for BTree {
     }
 
     fn insert_new(&mut self, entry: Entry) -> Result<bool, NoMemory> {
-        match self.root.insert(self.alloc, &entry) {
+        match self.root.insert(self.alloc, &entry, Hint::none()) {
             Ok(()) => Ok(true),
             Err(Obstacle::Taken) => Ok(false),
             Err(Obstacle::NoMemory) => {
                 // Memory for a leaf may be asked before its places are looked at.
-                if self.root.find(entry.part, entry.key).is_some() {
+                if self.find(entry.part, entry.key).is_some() {
                     return Ok(false);
                 }
                 Err(NoMemory)
@@ -149,12 +159,12 @@ impl PartIndex for BTree {
         self.root.append(self.alloc, part, pairs)
     }
 
-    fn make_room(&mut self, part: u32, key: Key, bytes: usize) -> Result<(), NoMemory> {
-        self.root.make_room(self.alloc, part, key, bytes)
+    fn make_room(&mut self, part: u32, key: Key, bytes: usize, hint: Hint) -> Result<(), NoMemory> {
+        self.root.make_room(self.alloc, part, key, bytes, hint)
     }
 
-    fn set(&mut self, part: u32, key: Key, value: Value, is_ghost: bool) -> bool {
-        self.root.set(part, key, value, is_ghost)
+    fn set(&mut self, part: u32, key: Key, value: Value, is_ghost: bool, hint: Hint) -> bool {
+        self.root.set(part, key, value, is_ghost, hint)
     }
 
     fn remove(&mut self, part: u32, key: Key) -> Entry {

@@ -13,7 +13,7 @@ use am_record::{Key, Value};
 use std::alloc::Global;
 
 impl Subtree {
-    /// Puts the first of the records, all live, behind all entries: as many as the last leaf has room for. Says how
+    /// Puts the first of the records, all live, after all entries: as many as the last leaf has room for. Says how
     /// many. (Where there is no entry, the records may belong below a separator that was left.)
     pub(crate) fn fill_last(&mut self, alloc: Global, part: u32, pairs: &[(Key, Value)]) -> usize
         requires some { 0 < length self.old.entries }
@@ -33,7 +33,7 @@ impl Subtree {
     }
 }
 
-// Puts the first of the records behind a leaf's entries, as many as it has room for; none where memory for longer keys
+// Puts the first of the records after a leaf's entries, as many as it has room for; none where memory for longer keys
 // or values was refused. The longest one says how wide the leaf gets, so a run of short values fills short leaves.
 fn fill_leaf(alloc: Global, leaf: &mut RawLeaf, part: u32, pairs: &[(Key, Value)]) -> usize
     requires { IsRising (leaf.old.entries ++ run_entries part pairs.now) }

@@ -17,6 +17,7 @@ use crate::room::{ROOM, keep_of, put, split_put};
 use crate::separator::Separator;
 use crate::separators::Separators;
 use crate::spare::{Spare, spares};
+use am_index::Hint;
 use am_leaf::RawLeaf;
 use am_record::{Entry, Key, NoMemory};
 use std::alloc::{AllocError, Global};
@@ -62,7 +63,12 @@ pub(crate) struct Split {
 
 impl Subtree {
     /// Adds an entry, unless its place is taken. Where the topmost node is split, a new one comes above it.
-    pub(crate) fn insert(&mut self, alloc: Global, entry: &Entry) -> Result<(), Obstacle>
+    pub(crate) fn insert(
+        &mut self,
+        alloc: Global,
+        entry: &Entry,
+        hint: Hint,
+    ) -> Result<(), Obstacle>
         ensures ok { OnOk result (self.new.entries ≡ insert_entry self.old.entries entry.now) }
         ensures absent { OnOk result (find self.old.entries entry.now.part entry.now.key ≡ None) }
         ensures taken { IsErrOf result Obstacle.Taken → IsSome (find self.old.entries entry.now.part entry.now.key) }
@@ -73,7 +79,7 @@ impl Subtree {
         // Read here, the node's invariant is known before it is changed.
         let _ = &self.node;
         // A topmost node that is split wants room for the one above it.
-        let Some(split) = self.insert_below(alloc, entry, 1)? else {
+        let Some(split) = self.insert_below(alloc, entry, 1, hint)? else {
             return Ok(());
         };
         let Split {
@@ -111,6 +117,7 @@ impl Subtree {
         alloc: Global,
         entry: &Entry,
         wanted: usize,
+        hint: Hint,
     ) -> Result<Option<Split>, Obstacle>
         ensures ok { IfOk result (Grows self.old self.new entry.now wanted) }
         ensures absent { OnOk result (find self.old.entries entry.now.part entry.now.key ≡ None) }
@@ -118,13 +125,13 @@ impl Subtree {
         ensures err { OnErr result (IsWidened self.old self.new) }
     {
         match &mut self.node {
-            Node::Leaf(leaf) => insert_in_leaf(alloc, leaf, entry, wanted),
+            Node::Leaf(leaf) => insert_in_leaf(alloc, leaf, entry, wanted, hint),
             Node::Inner(separators, children) => {
                 let more = wanted_below(children.len(), wanted)?;
-                let reach = separators.reached(entry.part, entry.key);
+                let reach = separators.reached_near(hint.first(), entry.part, entry.key);
                 let at = reach.saturating_sub(1);
                 let child = &mut children[at];
-                let grown = child.insert_below(alloc, entry, more)?;
+                let grown = child.insert_below(alloc, entry, more, hint.rest())?;
                 separators.lower(reach, entry);
                 let Some(split) = grown else {
                     return Ok(None);
@@ -155,6 +162,7 @@ fn insert_in_leaf(
     leaf: &mut RawLeaf,
     entry: &Entry,
     wanted: usize,
+    hint: Hint,
 ) -> Result<Option<Split>, Obstacle>
     ensures ok { IfOk result (Grows (leaf_shape leaf.old) (leaf_shape leaf.new) entry.now wanted) }
     ensures absent { OnOk result (find leaf.old.entries entry.now.part entry.now.key ≡ None) }
@@ -171,11 +179,11 @@ fn insert_in_leaf(
     let widened = leaf.widen(alloc, entry.key.bytes().len(), entry.value.len());
     prove!(leaf.len() <= 32);
     widened?;
-    insert_fitting(alloc, leaf, entry, wanted)
+    insert_fitting(alloc, leaf, entry, wanted, hint)
 }
 
-// A new leaf behind a full one, which begins with the entry. It is as wide as that needs, since nothing else comes into
-// it: so a long value widens its own leaf, and not those that a load fills behind it.
+// A new leaf after a full one, which begins with the entry. It is as wide as that needs, since nothing else comes into
+// it: so a long value widens its own leaf, and not those that a load fills after it.
 fn leaf_behind(
     alloc: Global,
     leaf: &RawLeaf,
@@ -205,6 +213,7 @@ fn insert_fitting(
     leaf: &mut RawLeaf,
     entry: &Entry,
     wanted: usize,
+    hint: Hint,
 ) -> Result<Option<Split>, Obstacle>
     requires fits { Fits leaf.old (length (bytes_of entry.now.key)) (length entry.now.value) }
     ensures ok { IfOk result (Grows (leaf_shape leaf.old) (leaf_shape leaf.new) entry.now wanted) }
@@ -217,7 +226,7 @@ fn insert_fitting(
     ensures room { ValuesHaveRoom leaf.new }
 {
     let len = leaf.len();
-    let Err(at) = leaf.find(entry.part, entry.key) else {
+    let Err(at) = leaf.find_near(hint.first(), entry.part, entry.key) else {
         return Err(Obstacle::Taken);
     };
     if len < ROOM {

@@ -14,7 +14,7 @@ use am_leaf::RawLeaf;
 use am_record::Entry;
 
 impl Subtree {
-    /// Adds the first of several entries that rise and go below the bound, each behind another of its leaf: one after
+    /// Adds the first of several entries that rise and go below the bound, each after another of its leaf: one after
     /// another, up to the first one that doesn't go there, or has no room. How many it added. They belong into these
     /// leaves by the separators as they stand, so none of these changes. It goes down once, and then from leaf to leaf.
     pub(crate) fn insert_among(&mut self, bound: Option<&Separator>, more: &[Entry]) -> usize
@@ -54,7 +54,7 @@ fn is_below(bound: Option<&Separator>, entry: &Entry) -> bool
     }
 }
 
-// Adds the first of several entries, each behind another of the leaf and below the bound, and says how many.
+// Adds the first of several entries, each after another of the leaf and below the bound, and says how many.
 fn put_all_among(leaf: &mut RawLeaf, bound: Option<&Separator>, more: &[Entry]) -> usize
     ensures count { result ≤ length more.now }
     ensures among { AllByRecursion (GoesAmong leaf.old.entries (option_copied bound.entry)) (take result more.now) }
@@ -76,7 +76,7 @@ fn put_all_among(leaf: &mut RawLeaf, bound: Option<&Separator>, more: &[Entry]) 
     added
 }
 
-// Adds an entry behind another of a leaf, where it goes below the bound, its place is free and there is room for it.
+// Adds an entry after another of a leaf, where it goes below the bound, its place is free and there is room for it.
 // Whether it did.
 fn put_among(leaf: &mut RawLeaf, bound: Option<&Separator>, entry: &Entry) -> bool
     ensures put { HasPut leaf.old leaf.new (option_copied bound.entry) entry.now result }

@@ -2,7 +2,7 @@
 //! the key), as an index of entries.
 //!
 //! A leaf has at most 32 entries and an inner node at most 32 children, and all leaves stand at one
-//! depth. A full node is halved, but where what is new comes behind all that it has: then it stays
+//! depth. A full node is halved, but where what is new comes after all that it has: then it stays
 //! full, and a node begins with what is new. So a load fills nodes, and so does whatever else comes
 //! in order. A node that became empty is freed, and so is a topmost node with one child; nodes that
 //! are only sparse are not merged. An insert gets all new nodes before it changes an entry.

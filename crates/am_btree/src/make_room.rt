@@ -1,5 +1,6 @@
 //! Getting room for a longer value.
 
+ghost use Rattle.am_record.specs.Limits.{max_value_bytes};
 ghost use Rattle.std.specs.Prelude.{◌≡◌, ◌≤◌, IsSome, OnOk, OnErr};
 ghost use Rattle.am_index.specs.Entries.{find};
 ghost use Rattle.am_index.specs.Rooms.{HasRoom};
@@ -8,6 +9,7 @@ ghost use Rattle.am_btree.specs.Nodes.{leaf_roomy};
 ghost use Rattle.am_btree.specs.Rooms.{IsWidened};
 
 use crate::node::{Node, Subtree};
+use am_index::Hint;
 use am_leaf::RawLeaf;
 use am_record::{Key, NoMemory, SHORT_LEN};
 use std::alloc::Global;
@@ -23,9 +25,10 @@ impl Subtree {
         part: u32,
         key: Key,
         bytes: usize,
+        hint: Hint,
     ) -> Result<(), NoMemory>
         requires present { IsSome (find self.old.entries part key) }
-        requires most { bytes ≤ 64 }
+        requires most { bytes ≤ max_value_bytes }
         ensures ok { OnOk result (HasRoom self.new.roomy part key bytes) }
         ensures full { OnErr result (¬ HasRoom self.old.roomy part key bytes) }
         ensures widened { IsWidened self.old self.new }
@@ -36,7 +39,7 @@ impl Subtree {
         if bytes <= SHORT_LEN {
             return Ok(());
         }
-        self.widen_below(alloc, part, key, bytes)
+        self.widen_below(alloc, part, key, bytes, hint)
     }
 
     // Gets the room in the leaf of the place, below this node.
@@ -46,9 +49,10 @@ impl Subtree {
         part: u32,
         key: Key,
         bytes: usize,
+        hint: Hint,
     ) -> Result<(), NoMemory>
         requires present { IsSome (find self.old.entries part key) }
-        requires most { bytes ≤ 64 }
+        requires most { bytes ≤ max_value_bytes }
         ensures ok { OnOk result (HasRoom self.new.roomy part key bytes) }
         ensures full { OnErr result (¬ HasRoom self.old.roomy part key bytes) }
         ensures widened { IsWidened self.old self.new }
@@ -56,8 +60,8 @@ impl Subtree {
         match &mut self.node {
             Node::Leaf(leaf) => widen_leaf(alloc, leaf, part, key, bytes),
             Node::Inner(separators, children) => {
-                let at = separators.child_for(part, key);
-                children[at].widen_below(alloc, part, key, bytes)
+                let at = separators.child_near(hint.first(), part, key);
+                children[at].widen_below(alloc, part, key, bytes, hint.rest())
             }
         }
     }
@@ -72,7 +76,7 @@ fn widen_leaf(
     bytes: usize,
 ) -> Result<(), NoMemory>
     requires present { IsSome (find leaf.old.entries part key) }
-    requires most { bytes ≤ 64 }
+    requires most { bytes ≤ max_value_bytes }
     ensures ok { OnOk result (HasRoom (leaf_roomy leaf.new) part key bytes) }
     ensures full { OnErr result (¬ HasRoom (leaf_roomy leaf.old) part key bytes) }
     ensures entries { leaf.new.entries ≡ leaf.old.entries }

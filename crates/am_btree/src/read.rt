@@ -8,11 +8,11 @@ ghost use Rattle.am_btree.specs.Rooms.{IsRoomed};
 ghost use Rattle.am_btree.specs.Seek.{first_from, all_such, IsStart};
 
 use crate::node::{Node, Subtree};
-use am_index::Batch;
+use am_index::{Batch, Hint};
 use am_leaf::RawLeaf;
 use am_record::{Entry, Key, NoMemory, Range, Value};
 
-// For how many rows room is got at once, where the rows of a range may go on behind a leaf: those of four.
+// For how many rows room is got at once, where the rows of a range may go on after a leaf: those of four.
 const ROWS_AHEAD: usize = 128;
 
 /// Where a walk begins.
@@ -125,6 +125,7 @@ impl Subtree {
         range: Range,
         max: u64,
         rows: &mut Vec<(Key, Value)>,
+        hint: Hint,
     ) -> Result<(), NoMemory>
         requires { length rows.old.items ≤ max }
         ensures copied { OnOk result (rows.new.items ≡ take max
@@ -134,15 +135,15 @@ impl Subtree {
         ensures rising { IsRising self.now.entries }
     {
         match &self.node {
-            Node::Leaf(leaf) => copy_rows_in_leaf(leaf, part, range, max, rows),
+            Node::Leaf(leaf) => copy_rows_in_leaf(leaf, part, range, max, rows, hint),
             Node::Inner(separators, children) => {
-                for at in separators.child_for(part, range.lo())..children.len() {
+                for at in separators.child_near(hint.first(), part, range.lo())..children.len() {
                     if rows.len() as u64 >= max
                         || !separators.get(at).is_reached(part, range.hi())
                     {
                         return Ok(());
                     }
-                    children[at].copy_rows(part, range, max, rows)?;
+                    children[at].copy_rows(part, range, max, rows, hint.rest())?;
                 }
                 Ok(())
             }
@@ -160,6 +161,7 @@ impl Subtree {
         range: Range,
         max: u64,
         rows: &mut Vec<(Key, Value)>,
+        hint: Hint,
     ) -> Result<(), NoMemory>
         requires { length rows.old.items ≤ max }
         ensures copied { OnOk result (rows.new.items ≡ take max
@@ -169,11 +171,11 @@ impl Subtree {
         ensures rising { IsRising self.now.entries }
     {
         match &self.node {
-            Node::Leaf(leaf) => copy_rows_back_in_leaf(leaf, part, range, max, rows),
+            Node::Leaf(leaf) => copy_rows_back_in_leaf(leaf, part, range, max, rows, hint),
             Node::Inner(separators, children) => {
-                let end = separators.child_for(part, range.hi()) + 1;
+                let end = separators.child_near(hint.first(), part, range.hi()) + 1;
                 for at in (0..end).rev() {
-                    children[at].copy_rows_back(part, range, max, rows)?;
+                    children[at].copy_rows_back(part, range, max, rows, hint.rest())?;
                     if rows.len() as u64 >= max || separators.get(at).is_reached(part, range.lo()) {
                         return Ok(());
                     }
@@ -196,13 +198,13 @@ fn entry_at(leaf: &RawLeaf, at: usize) -> Option<Entry>
 }
 
 // Where a walk over the leaf begins.
-fn start_in_leaf(leaf: &RawLeaf, part: u32, key: Key, start: Start) -> usize
+fn start_in_leaf(leaf: &RawLeaf, part: u32, key: Key, start: Start, hint: Hint) -> usize
     ensures begins { IsStart start leaf.now.entries part key result }
     ensures rising { IsRising leaf.now.entries }
 {
     // Asked here, an entry's index is known to have a next one.
     prove!(leaf.len() <= 32);
-    match leaf.find(part, key) {
+    match leaf.find_near(hint.first(), part, key) {
         Ok(at) => match start {
             Start::At => at,
             Start::Above => at + 1,
@@ -213,7 +215,7 @@ fn start_in_leaf(leaf: &RawLeaf, part: u32, key: Key, start: Start) -> usize
 
 // Where a walk over the leaf ends that goes no further than the place. The last entry is asked first, since most leaves
 // end before the end of a range.
-fn end_in_leaf(leaf: &RawLeaf, part: u32, key: Key) -> usize
+fn end_in_leaf(leaf: &RawLeaf, part: u32, key: Key, hint: Hint) -> usize
     ensures ends { IsUpperBound leaf.now.entries part key result }
     ensures rising { IsRising leaf.now.entries }
 {
@@ -221,11 +223,11 @@ fn end_in_leaf(leaf: &RawLeaf, part: u32, key: Key) -> usize
     if len > 0 && leaf.cmp_at(len - 1, part, key).is_le() {
         return len;
     }
-    start_in_leaf(leaf, part, key, Start::Above)
+    start_in_leaf(leaf, part, key, Start::Above, hint)
 }
 
 // Where a walk from the leaf's end ends that goes no further down than the place. The first entry is asked first, since
-// most leaves begin behind the start of a range.
+// most leaves begin after the start of a range.
 fn end_back_in_leaf(leaf: &RawLeaf, part: u32, key: Key) -> usize
     ensures ends { IsLowerBound leaf.now.entries part key result }
     ensures rising { IsRising leaf.now.entries }
@@ -233,7 +235,7 @@ fn end_back_in_leaf(leaf: &RawLeaf, part: u32, key: Key) -> usize
     if leaf.len() > 0 && leaf.cmp_at(0, part, key).is_ge() {
         return 0;
     }
-    start_in_leaf(leaf, part, key, Start::At)
+    start_in_leaf(leaf, part, key, Start::At, Hint::none())
 }
 
 // The first entry of the leaf from the place on.
@@ -241,7 +243,7 @@ fn seek_in_leaf(leaf: &RawLeaf, part: u32, key: Key, start: Start) -> Option<Ent
     ensures found { result ≡ first_from start leaf.now.entries part key }
     ensures rising { IsRising leaf.now.entries }
 {
-    entry_at(leaf, start_in_leaf(leaf, part, key, start))
+    entry_at(leaf, start_in_leaf(leaf, part, key, start, Hint::none()))
 }
 
 // The first ghost of the leaf from the place on.
@@ -249,7 +251,7 @@ fn next_ghost_in_leaf(leaf: &RawLeaf, part: u32, key: Key) -> Option<Entry>
     ensures found { result ≡ next_ghost leaf.now.entries part key }
     ensures rising { IsRising leaf.now.entries }
 {
-    leaf.ghost_from(start_in_leaf(leaf, part, key, Start::At))
+    leaf.ghost_from(start_in_leaf(leaf, part, key, Start::At, Hint::none()))
 }
 
 // Appends the entries of the partition of a leaf, as many as the batch has room for.
@@ -258,7 +260,7 @@ fn read_on_in_leaf(leaf: &RawLeaf, part: u32, key: Key, start: Start, batch: &mu
     ensures rising { IsRising leaf.now.entries }
 {
     prove!(batch.entries().len() <= 16);
-    for at in start_in_leaf(leaf, part, key, start)..leaf.len() {
+    for at in start_in_leaf(leaf, part, key, start, Hint::none())..leaf.len() {
         if batch.is_full() {
             return;
         }
@@ -270,7 +272,7 @@ fn read_on_in_leaf(leaf: &RawLeaf, part: u32, key: Key, start: Start, batch: &mu
     }
 }
 
-// Appends the live records of a leaf's partition in the range, until there are `max` rows. The range may go on behind
+// Appends the live records of a leaf's partition in the range, until there are `max` rows. The range may go on after
 // the leaf.
 fn copy_rows_in_leaf(
     leaf: &RawLeaf,
@@ -278,6 +280,7 @@ fn copy_rows_in_leaf(
     range: Range,
     max: u64,
     rows: &mut Vec<(Key, Value)>,
+    hint: Hint,
 ) -> Result<(), NoMemory>
     requires { length rows.old.items ≤ max }
     ensures copied { OnOk result (rows.new.items ≡ take max (rows.old.items ++ rows_in leaf.now.entries part range)) }
@@ -285,8 +288,8 @@ fn copy_rows_in_leaf(
     ensures full { OnErr result (vec_capacity rows.old < max) }
     ensures rising { IsRising leaf.now.entries }
 {
-    let from = start_in_leaf(leaf, part, range.lo(), Start::At);
-    let to = end_in_leaf(leaf, part, range.hi());
+    let from = start_in_leaf(leaf, part, range.lo(), Start::At, hint);
+    let to = end_in_leaf(leaf, part, range.hi(), Hint::none());
     reserve_rows(rows, max, to.saturating_sub(from), to == leaf.len())?;
     for at in from..to {
         if rows.len() as u64 >= max {
@@ -306,6 +309,7 @@ fn copy_rows_back_in_leaf(
     range: Range,
     max: u64,
     rows: &mut Vec<(Key, Value)>,
+    hint: Hint,
 ) -> Result<(), NoMemory>
     requires { length rows.old.items ≤ max }
     ensures copied { OnOk result (rows.new.items ≡ take max
@@ -315,7 +319,7 @@ fn copy_rows_back_in_leaf(
     ensures rising { IsRising leaf.now.entries }
 {
     let from = end_back_in_leaf(leaf, part, range.lo());
-    let to = end_in_leaf(leaf, part, range.hi());
+    let to = end_in_leaf(leaf, part, range.hi(), hint);
     reserve_rows(rows, max, to.saturating_sub(from), from == 0)?;
     for at in (from..to).rev() {
         if rows.len() as u64 >= max {

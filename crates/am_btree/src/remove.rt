@@ -100,7 +100,7 @@ fn remove_from_leaf(leaf: &mut RawLeaf, part: u32, key: Key, most: usize) -> Rem
     }
 }
 
-// Takes the entries from one index up to another out. The last one goes first, so that only those behind it are moved.
+// Takes the entries from one index up to another out. The last one goes first, so that only those after it are moved.
 fn cut(leaf: &mut RawLeaf, from: usize, to: usize)
     requires ordered { from ≤ to }
     requires in_range { to ≤ length leaf.old.entries }

@@ -56,7 +56,7 @@ pub(crate) fn move_tail<T: Drop>(from: &mut Vec<T>, at: usize, to: &mut Vec<T>)
     to.reverse();
 }
 
-/// How many of a full node's values stay, where a new one comes to the index. Where it comes behind them, all do: so
+/// How many of a full node's values stay, where a new one comes to the index. Where it comes after them, all do: so
 /// what comes in order fills nodes, wherever in the tree it goes.
 pub(crate) fn keep_of(at: usize) -> usize
     requires { at ≤ 32 }

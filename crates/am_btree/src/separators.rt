@@ -1,9 +1,9 @@
 //! The separators of a node.
 
 ghost use Rattle.std.specs.Prelude.{◌≡◌, ◌+◌, ◌<◌, ◌≤◌, [], length, take, drop, nat_eq, nat_lt, slice_get};
-ghost use Rattle.std.specs.Prelude.{slice_index_or, IfOk, option_copied};
-ghost use Rattle.std.specs.List.{count_by, prefix_len, insert, remove};
-ghost use Rattle.am_btree.specs.Fronts.{fronts_of};
+ghost use Rattle.std.specs.Prelude.{slice_index_or, IfOk, option_copied, true};
+ghost use Rattle.std.specs.List.{AllByRecursion, count_by, prefix_len, insert, remove};
+ghost use Rattle.am_btree.specs.Fronts.{fronts_of, FrontsRise};
 ghost use Rattle.am_btree.specs.Separators.{IsReach, IsChildFor, SeparatorsRise, lowered};
 ghost use Rattle.am_btree.specs.Splits.{lower_size};
 
@@ -12,6 +12,9 @@ use crate::separator::{Separator, reached};
 use am_record::{Entry, Key, fronts_follow_keys};
 use std::alloc::{AllocError, Global};
 use std::marker::Model;
+
+/// How many fronts make a group, of which the last is asked first.
+const GROUP: usize = 8;
 
 /// The places at which the children of a node begin, with room for those of a full node.
 #[derive(Drop)]
@@ -56,7 +59,7 @@ impl Separators {
         self.places[at]
     }
 
-    /// Where the child behind that one begins, if there is one.
+    /// Where the child after that one begins, if there is one.
     pub(crate) fn behind(&self, at: usize) -> Option<&Separator>
         requires { at < length self.now }
         ensures { option_copied result ≡ slice_get self.now (at + 1) }
@@ -72,6 +75,17 @@ impl Separators {
         search(&self.places, &self.fronts, part, key)
     }
 
+    /// The same, where the child may be that one: it is looked at before.
+    pub(crate) fn reached_near(&self, child: usize, part: u32, key: Key) -> usize
+        requires { SeparatorsRise self.now }
+        ensures { IsReach self.now part key result }
+    {
+        if begins_last(&self.places, &self.fronts, child, part, key) {
+            return child + 1;
+        }
+        self.reached(part, key)
+    }
+
     /// The child in which the place is to be looked for: the last one that begins at or below it, and
     /// the first one where none does.
     pub(crate) fn child_for(&self, part: u32, key: Key) -> usize
@@ -80,6 +94,23 @@ impl Separators {
         ensures { IsChildFor self.now part key result }
     {
         self.reached(part, key).saturating_sub(1)
+    }
+
+    /// The same, where it may be that one: it is looked at before.
+    pub(crate) fn child_near(&self, child: usize, part: u32, key: Key) -> usize
+        requires rising { SeparatorsRise self.now }
+        requires some { 0 < length self.now }
+        ensures { IsChildFor self.now part key result }
+    {
+        self.reached_near(child, part, key).saturating_sub(1)
+    }
+
+    /// A child in which a place of that front may have to be looked for. It may be wrong: fronts alone are looked at.
+    pub(crate) fn guess(&self, front: u64) -> usize
+        requires { SeparatorsRise self.now }
+        ensures { 0 < length self.now → result < length self.now }
+    {
+        guess(&self.places, &self.fronts, front)
     }
 
     /// Lets the first child begin at the entry, where none begins at or below it.
@@ -166,12 +197,64 @@ fn search(separators: &[Separator], fronts: &[u64], part: u32, key: Key) -> usiz
     lower + reached(&separators[lower..lower + alike], part, key)
 }
 
-// How many of the fronts are below the one. No step depends on what a comparison says.
+// Whether the fronts tell that the child is the last one that begins at or below the place.
+fn begins_last(separators: &[Separator], fronts: &[u64], child: usize, part: u32, key: Key) -> bool
+    requires fronts { fronts.now ≡ fronts_of separators.now }
+    requires rising { SeparatorsRise separators.now }
+    ensures { result ≡ true → IsReach separators.now part key (child + 1) }
+{
+    fronts_follow_keys();
+    let front = Separator { part, key }.front();
+    let len = fronts.len();
+    if child >= len || fronts[child] >= front {
+        return false;
+    }
+    child + 1 == len || front < fronts[child + 1]
+}
+
+// The last child whose front isn't above the one.
+fn guess(separators: &[Separator], fronts: &[u64], front: u64) -> usize
+    requires fronts { fronts.now ≡ fronts_of separators.now }
+    requires rising { SeparatorsRise separators.now }
+    ensures { 0 < length separators.now → result < length separators.now }
+{
+    fronts_follow_keys();
+    count_lower(fronts, front.saturating_add(1)).saturating_sub(1)
+}
+
+// How many of the fronts are below the one: those of the groups that are below it, and some of the next.
 fn count_lower(fronts: &[u64], front: u64) -> usize
+    requires rising { FrontsRise fronts.now }
     ensures { result ≡ count_by (λ other. nat_lt other front) fronts.now }
 {
+    let passed = pass_groups(fronts, front);
+    passed + count_in_group(&fronts[passed..], front)
+}
+
+// How many stand in groups whose last front is below the one.
+fn pass_groups(fronts: &[u64], front: u64) -> usize
+    requires rising { FrontsRise fronts.now }
+    ensures within { result ≤ length fronts.now }
+    ensures below { AllByRecursion (λ other. other < front) (take result fronts.now) }
+    ensures above { AllByRecursion (λ other. front ≤ other) (drop 8 (drop result fronts.now)) }
+{
+    let mut passed = 0;
+    let mut end = GROUP;
+    'group: while end <= fronts.len() {
+        if fronts[end - 1] < front {
+            passed = end;
+        }
+        end += GROUP;
+    }
+    passed
+}
+
+// How many of the first group are below the one. No step depends on what a comparison says.
+fn count_in_group(fronts: &[u64], front: u64) -> usize
+    ensures { result ≡ count_by (λ other. nat_lt other front) (take 8 fronts.now) }
+{
     let mut lower = 0;
-    for other in fronts {
+    for other in &fronts[..fronts.len().min(GROUP)] {
         lower += usize::from(*other < front);
     }
     lower

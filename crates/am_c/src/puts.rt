@@ -34,7 +34,7 @@ pub extern "C" fn tiuvrokk_put_sorting(
     tell_runs(alloc, store, tx, Bringing::Put, pairs, key, loaded, told)
 }
 
-/// The same of so many structs of the caller's own, one behind another. Those that stand there whole and all have a
+/// The same of so many structs of the caller's own, one after another. Those that stand there whole and all have a
 /// record are read where they lie; else pairs are made of them, up to the first that has none.
 #[unsafe(no_mangle)]
 pub extern "C" fn tiuvrokk_put_structs(

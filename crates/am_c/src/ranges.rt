@@ -34,7 +34,7 @@ pub extern "C" fn tiuvrokk_scan(
     status_told(&answer)
 }
 
-/// Scans what lies behind a key, up to another one, so that a scan goes on. There may be 999 rows: the record of the
+/// Scans what lies after a key, up to another one, so that a scan goes on. There may be 999 rows: the record of the
 /// key itself is read too.
 #[unsafe(no_mangle)]
 pub extern "C" fn tiuvrokk_scan_behind(

@@ -12,7 +12,7 @@ use Rattle.am_c_steps.specs.declared.status.Status.{Status}
 use Rattle.am_c_steps.specs.Texts.{of_both}
 use Rattle.am_c_steps.specs.Lines.{is_lf, lines_in, lines_of, lines_given, wrong_line}
 
--- the rest of a slice behind a place
+-- the rest of a slice after a place
 pub behind : (text : List ℕ) (k : ℕ) → take (length text - (k + 1)) (drop (k + 1) text) ≡ drop (k + 1) text
 behind text k = grind (arith, common_steps)
 

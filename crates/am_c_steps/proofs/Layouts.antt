@@ -26,7 +26,7 @@ put_in_front : (done : Records) (p : Pair) (rest : Result Records Status) →
 put_in_front done p (Ok ps) = ap Ok (append_assoc done (p ∷ []) ps)
 put_in_front done p (Err why) = refl
 
--- the first struct, and those behind it
+-- the first struct, and those after it
 first_of : (l : Layout) (bytes : List ℕ) (left : ℕ) → 0 < left → structs_given l bytes left ≡
     of_both put (struct_given l (take l.size bytes)) (structs_given l (drop l.size bytes) (left - 1))
 first_of l bytes zero some = absurd (omega arith)

@@ -15,7 +15,7 @@ is_lf byte = byte == 10
 abbrev pub is_tab : ℕ → Bool
 is_tab byte = byte == 9
 
--- what stands behind the last LF is a line, unless nothing does
+-- what stands after the last LF is a line, unless nothing does
 abbrev pub last_line : List ℕ → List (List ℕ)
 last_line [] = []
 last_line (b ∷ bs) = (b ∷ bs) ∷ []
@@ -33,7 +33,7 @@ lines_of text = lines_in (slice_split is_lf text)
 abbrev pub record_of : List ℕ → List ℕ → Result (OrderedKey × List ℕ) Status
 record_of key value = of_both (λ k v. Ok (k, v)) (key_given key) (value_given value)
 
--- the key stands in front of that TAB, and the value is all behind it
+-- the key stands in front of that TAB, and the value is all after it
 abbrev pub cut_at : List ℕ → Option ℕ → Result (OrderedKey × List ℕ) Status
 cut_at line None = Err BadLine
 cut_at line (Some tab) = record_of (take tab line) (drop (tab + 1) line)

@@ -1,4 +1,4 @@
--- Structs of the caller's own, one behind another, each with its key and its value at the same places.
+-- Structs of the caller's own, one after another, each with its key and its value at the same places.
 use Rattle.std.specs.Prelude.{ℕ, zero, suc, ◌+◌, ◌*◌, ◌≤◌, ◌<◌, nat_le, length, List, [], ◌∷◌, take, drop, cond}
 use Rattle.std.specs.Prelude.{Result, Ok, Err}
 use Rattle.am_record.specs.Limits.{max_key_bytes, max_value_bytes}
@@ -43,7 +43,7 @@ pub record IsSound (l : Layout) : Type 0 where
   pub value : l.value_at + l.value_length ≤ l.size
   pub value_fits : l.value_length ≤ max_value_bytes
 
--- so many such structs stand one behind another
+-- so many such structs stand one after another
 pub record AreWhole (l : Layout) (bytes : List ℕ) (count : ℕ) : Type 0 where
   pub layout : IsSound l
   pub whole : count * l.size ≤ length bytes

@@ -1,6 +1,6 @@
 -- Keys, values and records as C gives and gets them.
 use Rattle.std.specs.Prelude.{ℕ, nat_le, length, List, take, cond, Result, Ok, Err}
-use Rattle.am_record.specs.Limits.{max_key_bytes, max_value_bytes}
+use Rattle.am_record.specs.Limits.{max_value_bytes, max_key_bytes}
 use Rattle.am_record.specs.OrderedKey.{OrderedKey, key_of, bytes_of}
 use Rattle.am_record.specs.PaddedBytes.{zero_filled}
 use Rattle.am_record.specs.Interval.{Interval, key_le}
@@ -36,12 +36,12 @@ pair_given r =
     (Ok (key_of (take r.key.len r.key.bytes), take r.value.len r.value.bytes)) (Err BadValue))
     (Err BadKey)
 
--- as C holds them: zeros stand behind the bytes
+-- as C holds them: zeros stand after the bytes
 abbrev pub key_text : OrderedKey → KeyText
-key_text k = record { len = length (bytes_of k); bytes = zero_filled 32 (bytes_of k) }
+key_text k = record { len = length (bytes_of k); bytes = zero_filled max_key_bytes (bytes_of k) }
 
 abbrev pub value_text : List ℕ → ValueText
-value_text v = record { len = length v; bytes = zero_filled 64 v }
+value_text v = record { len = length v; bytes = zero_filled max_value_bytes v }
 
 abbrev pub record_as_text : OrderedKey × List ℕ → Record
 record_as_text r = record { key = key_text r.0; value = value_text r.1 }

@@ -41,7 +41,7 @@ pub fn tell_rows(answer: &Result<Reply, Status>, rows: &mut [Record]) -> u64
     }
 }
 
-/// The same of the rows behind a key, as many as there is room for.
+/// The same of the rows after a key, as many as there is room for.
 pub fn tell_rows_behind(key: &[u8], answer: &Result<Reply, Status>, rows: &mut [Record]) -> u64
     ensures told { result ≡ count_told (rows_behind key.now (length rows.old)) answer.now }
     ensures rows { rows.new ≡ rows_told (rows_behind key.now (length rows.old)) answer.now rows.old }

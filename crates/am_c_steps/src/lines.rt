@@ -68,7 +68,7 @@ fn push(pairs: &mut Vec<(Key, Value)>, pair: (Key, Value)) -> Result<(), WrongLi
     Ok(())
 }
 
-// The first line of a text, and what stands behind its LF.
+// The first line of a text, and what stands after its LF.
 fn first_line(text: &[u8]) -> (&[u8], &[u8])
     requires { 0 < length text.now }
     ensures line { lines_of text.now ≡ result.0.now ∷ lines_of result.1.now }

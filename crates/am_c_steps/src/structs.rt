@@ -1,4 +1,4 @@
-//! Structs of the caller's own, one behind another.
+//! Structs of the caller's own, one after another.
 
 ghost use Rattle.std.specs.Prelude.{◌≡◌, ◌≤◌, ◌↔◌, ◌⊎◌, ◌+◌, ◌*◌, [], nat_le, length, IsTrue};
 ghost use Rattle.std.specs.Prelude.{IsSome, IfSome, OnOk, IfErr, Ok, Err};

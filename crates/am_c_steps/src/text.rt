@@ -1,4 +1,4 @@
-//! Keys, values and records as C holds them: their bytes, zeros behind them, and how many there are.
+//! Keys, values and records as C holds them: their bytes, zeros after them, and how many there are.
 
 ghost use Rattle.std.specs.Prelude.{◌≡◌, length};
 ghost use Rattle.am_c_steps.specs.Texts.{key_given, value_given, range_given, pair_given, key_text, value_text};

@@ -39,7 +39,7 @@ IsFailure (Ok pairs) (Other why) = why ≡ is.NoMemory
 IsFailure (Err wrong) (Twice key) = ⊥
 IsFailure (Err wrong) (Other why) = (why ≡ wrong) ⊎ (why ≡ is.NoMemory)
 
--- behind the reply to the first run: where it is Done the others are loaded too, and else nothing is done any more
+-- after the reply to the first run: where it is Done the others are loaded too, and else nothing is done any more
 abbrev pub GoesOn : Records → (StoreState → ℕ → Reply → StoreState → Type 0) → Reply → StoreState → ℕ → Reply →
     StoreState → Type 0
 GoesOn run Others Done p loaded reply new = (more : ℕ) × (loaded ≡ length run + more) × Others p more reply new
@@ -49,7 +49,7 @@ GoesOn run Others first p loaded reply new = (loaded ≡ 0) × (reply ≡ first)
 abbrev pub HasNoRoom : StoreState → ℕ → Reply → StoreState → Type 0
 HasNoRoom old loaded reply new = (loaded ≡ 0) × (reply ≡ Refused NoMemory) × (new ≡ old)
 
--- the store took the next run by a step of its own, and what comes behind that
+-- the store took the next run by a step of its own, and what comes after that
 abbrev pub TakesRun : ℕ → Bringing → Records → (StoreState → ℕ → Reply → StoreState → Type 0) → StoreState → ℕ → Reply →
     StoreState → Type 0
 TakesRun tx bringing run Others old loaded reply new =

@@ -75,7 +75,7 @@ impl Handle {
         }
     }
 
-    /// Puts a store behind the handle. What was there before is dropped.
+    /// Puts a store after the handle. What was there before is dropped.
     pub(crate) fn put(&mut self, store: Box<Store<BTree>>)
         ensures { self.new.held ≡ Just store.value }
     {

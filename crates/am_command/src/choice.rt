@@ -7,6 +7,6 @@ pub struct Audited<'a> {
     pub file: Option<&'a str>,
     /// Whether the records that a legal trace leaves are told.
     pub tells_records: bool,
-    /// Whether the run isn't ended: what stands behind the last LF is left out.
+    /// Whether the run isn't ended: what stands after the last LF is left out.
     pub is_open: bool,
 }

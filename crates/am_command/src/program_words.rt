@@ -8,7 +8,7 @@ use clap::ArgMatches;
 use std::env::Env;
 use std::{env, io};
 
-/// What `--version` prints behind a program's name.
+/// What `--version` prints after a program's name.
 pub const VERSION: &str = "1.1.0";
 
 /// The words of the command line, the program's name first.

@@ -49,7 +49,7 @@ fn stack_limit<R: AllocGlobal + Files>(rt: &R) -> Option<u64> {
     line.split_whitespace().nth(3)?.parse().ok()
 }
 
-/// How many pages the walk goes down. Each is written, and read behind those below it.
+/// How many pages the walk goes down. Each is written, and read after those below it.
 #[inline(never)]
 fn reached(pages: u8) -> u8
     ensures { result ≡ pages }

@@ -3,7 +3,7 @@ use Rattle.std.specs.Prelude.{ℕ, nat_le, List, [], ◌∷◌, ◌++◌, codes,
 use Rattle.std.specs.List.{flat_map}
 use Rattle.am_keeper.specs.declared.counts.Counts.{Counts}
 
--- a count with its name, and a space behind it
+-- a count with its name, and a space after it
 abbrev pub count_words : List ℕ × ℕ → List ℕ
 count_words count = ((count.0 ++ codes "=") ++ decimal count.1) ++ codes " "
 

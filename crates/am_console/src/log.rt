@@ -8,7 +8,7 @@ use am_keeper::Counts;
 use itoa::Buffer;
 use std::alloc::{AllocError, Global};
 
-// Writes counts, each with its name before it and a space behind it.
+// Writes counts, each with its name before it and a space after it.
 fn put_counts(text: &mut String, counts: &[(&str, u64)]) -> Result<(), AllocError>
     ensures { OnOk result (string_bytes text.new ≡
         string_bytes text.old ++ flat_map (λ c. count_words (c.0.now, c.1)) counts.now) }

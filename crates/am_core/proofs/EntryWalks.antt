@@ -76,7 +76,7 @@ pub ends : (es done : List Entry) (next : Option Entry) → IsListed es done nex
 ends es done next l is = sym (append-nil done) ∙
     ap (λ (rs : List Entry). done ++ rs) (sym (nothing l.rest (sym is ∙ l.at))) ∙ sym l.all
 
--- ---- the entry behind one
+-- ---- the entry after one
 
 module _ (es : List Entry) (e : Entry) (sound : AreWellFormed es) (before behind : List Entry)
     (is : es ≡ before ++ e ∷ behind) where
@@ -113,7 +113,7 @@ module _ (es : List Entry) (e : Entry) (sound : AreWellFormed es) (before behind
   pub here : (r : Option Entry) (y : Entry) → r ≡ after es e.part e.key → r ≡ Some y → Some y ≡ slice_get behind 0
   here r y found is' = the_one (slice_get behind 0) y (sym in_part ∙ sym found ∙ is')
 
-  -- where its partition has no more, all that is behind stands in later ones
+  -- where its partition has no more, all that is after stands in later ones
   other_part : (x : Entry) → only_of e.part (Some x) ≡ None → x.part ≢ e.part
   other_part x h same = by_part (x.part == e.part) refl h
     where

@@ -52,7 +52,7 @@ abbrev pub TakesEach : StoreState → Trace → StoreState → Type 0
 TakesEach old [] new = new ≡ old
 TakesEach old (e ∷ more) new = (next : StoreState) × IsOwed old e.0 e.1 next × TakesEach next more new
 
--- the steps were taken one after another, each with its reply, which stands behind the replies before
+-- the steps were taken one after another, each with its reply, which stands after the replies before
 pub record HasRun (old : StoreState) (steps : List Step) (before : List Reply) (new : StoreState)
     (after : List Reply) : Type 0 where
   pub replies : List Reply

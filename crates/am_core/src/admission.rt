@@ -4,6 +4,7 @@ ghost use Rattle.std.specs.Prelude.{◌≡◌, ◌||◌, nat_le, true, length, I
 ghost use Rattle.am_parts.specs.Catalogs.{runs_in};
 ghost use Rattle.am_locks.specs.Table.{locks_owned};
 ghost use Rattle.am_tx.specs.Active.{is_active_in, ops_in};
+ghost use Rattle.am_record.specs.Limits.{max_runs};
 ghost use Rattle.am_record.specs.Refusals.{refusal_before_lock};
 ghost use Rattle.am_core.specs.Admission.{IsLockRefusal, IsLockGranted, wish_of};
 
@@ -23,7 +24,7 @@ pub(crate) fn refusal<I: PartIndex + Drop>(
     op: &Op,
 ) -> Option<Refusal>
     ensures { result ≡ refusal_before_lock (is_active_in txs.now.active tx) (ops_in txs.now.active tx)
-        (nat_le most_runs parts.now.runs || nat_le 65535 (runs_in parts.now.entries)) op.now }
+        (nat_le most_runs parts.now.runs || nat_le max_runs (runs_in parts.now.entries)) op.now }
 {
     let is_active = txs.is_active(tx);
     let ops = if is_active { txs.ops(tx) } else { 0 };
@@ -32,7 +33,7 @@ pub(crate) fn refusal<I: PartIndex + Drop>(
 
 // Whether no further run may be made: as many were made as may be, or 65,535 have entries.
 fn has_all_runs<I: PartIndex + Drop>(parts: &Parts<I>, most_runs: u32) -> bool
-    ensures { result ≡ (nat_le most_runs parts.now.runs || nat_le 65535 (runs_in parts.now.entries)) }
+    ensures { result ≡ (nat_le most_runs parts.now.runs || nat_le max_runs (runs_in parts.now.entries)) }
 {
     parts.runs() >= most_runs || parts.open_runs() >= MAX_RUNS as usize
 }

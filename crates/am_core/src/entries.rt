@@ -28,7 +28,7 @@ pub(crate) fn all_entries<I: PartIndex + Drop>(
     Ok(entries)
 }
 
-// The entry behind this one, in its partition or the next one that has any.
+// The entry after this one, in its partition or the next one that has any.
 fn next_entry<I: PartIndex + Drop>(parts: &Parts<I>, entry: &Entry) -> Option<Entry>
     ensures { (before behind : List TheEntry) → parts.now.entries ≡ before ++ entry.now ∷ behind →
         result ≡ slice_get behind 0 }

@@ -1,6 +1,7 @@
 //! What a store keeps, and its steps.
 
 ghost use Rattle.std.specs.Prelude.{◌≡◌, ◌+◌, ◌≤◌, ◌^◌, length, true};
+ghost use Rattle.am_record.specs.Limits.{last_run};
 ghost use Rattle.am_record.specs.declared.step.Refusal.TheVariants.{NoMemory};
 ghost use Rattle.am_index.specs.Rooms.{KeepRoom};
 ghost use Rattle.am_sound.specs.StoreState.{MayAnswer, state_after, IsFit};
@@ -32,7 +33,7 @@ impl<I: PartIndex + Drop> Inner<I> {
         requires fit { IsFit (inner_state self.old) }
         requires few { self.old.commits + length self.old.txs.active ≤ 2 ^ 63 }
         requires room { HasRooms self.old }
-        requires runs { self.old.most_runs ≤ 4294967294 }
+        requires runs { self.old.most_runs ≤ last_run }
         ensures says { MayAnswer (inner_state self.old) step result }
         ensures after { inner_state self.new ≡ state_after (inner_state self.old) step result }
         ensures memory { result ≡ Reply.Refused NoMemory → may_want_memory (inner_state self.old) step ≡ true }

@@ -1,6 +1,7 @@
 //! One operation of a transaction.
 
 ghost use Rattle.std.specs.Prelude.{◌≡◌, ◌≤◌, true, false, ◌&&◌, nat_le, IfOk, OnErr};
+ghost use Rattle.am_record.specs.Limits.{last_run};
 ghost use Rattle.am_record.specs.Plain.{is_orderly};
 ghost use Rattle.am_record.specs.declared.step.Step.TheVariants.{Do};
 ghost use Rattle.am_record.specs.declared.step.Refusal.TheVariants.{NoMemory as OutOfMemory};
@@ -35,7 +36,7 @@ impl<I: PartIndex + Drop> Inner<I> {
     pub(crate) fn operate(&mut self, tx: u64, op: Op) -> Reply
         requires fit { IsFit (inner_state self.old) }
         requires room { HasRooms self.old }
-        requires runs { self.old.most_runs ≤ 4294967294 }
+        requires runs { self.old.most_runs ≤ last_run }
         ensures says { MayAnswer (inner_state self.old) (Do tx op) result }
         ensures after { inner_state self.new ≡ state_after (inner_state self.old) (Do tx op) result }
         ensures memory { result ≡ Reply.Refused OutOfMemory → may_want_memory (inner_state self.old) (Do tx op) ≡ true }
@@ -81,7 +82,7 @@ fn work<I: PartIndex + Drop>(
 ) -> Result<Reply, NoMemory>
     requires active { is_active_in txs.old.active tx ≡ true }
     requires orderly { is_orderly op ≡ true }
-    requires room { (may_make_run op && nat_le 4294967294 parts.old.runs) ≡ false }
+    requires room { (may_make_run op && nat_le last_run parts.old.runs) ≡ false }
     requires above { NothingAbove parts.old.runs parts.old.entries }
     requires back { CanTakeBack (since_mark (log_in txs.old.active tx).marks (log_in txs.old.active tx).notes)
         (find parts.old.entries) }

@@ -8,7 +8,7 @@ use am_index::PartIndex;
 use am_record::{NoMemory, Reply, Step};
 use std::alloc::Global;
 
-/// Takes the steps in order, and puts their replies behind those that are there. Copies of all steps
+/// Takes the steps in order, and puts their replies after those that are there. Copies of all steps
 /// and the room for all replies are got first. Wherever the store stood, it then stands there with
 /// these steps and replies added: so, from an opened store on, the trace of all steps is sound at each
 /// moment, whatever the steps were. Each reply is one that is due of what the store keeps before it,

@@ -1,6 +1,7 @@
 //! The store.
 
 ghost use Rattle.std.specs.Prelude.{◌≡◌, ◌+◌, ◌≤◌, ◌^◌, [], ◌∷◌, true, length, IfOk};
+ghost use Rattle.am_record.specs.Limits.{max_runs, last_run};
 ghost use Rattle.am_record.specs.declared.step.Refusal.{Refusal as TheRefusal};
 ghost use Rattle.am_record.specs.declared.step.Refusal.TheVariants.{NoMemory as OutOfMemory};
 ghost use Rattle.am_index.specs.Entries.{next_ghost};
@@ -57,7 +58,7 @@ impl<I: PartIndex + Drop> Store<I> {
     /// NoMemory, where memory was refused for the ring of wishes, the tables or what holds them.
     pub fn open(alloc: Global, index: I, hash: HashKey) -> Result<Store<I>, NoMemory>
         requires { I.entries index ≡ [] }
-        ensures empty { IfOk result (λ store. store ≡ empty_state 65535) }
+        ensures empty { IfOk result (λ store. store ≡ empty_state max_runs) }
         ensures stands { IfOk result (λ store. IsSoundAt [] store) }
     {
         Store::open_for(alloc, index, hash, MAX_RUNS)
@@ -74,7 +75,7 @@ impl<I: PartIndex + Drop> Store<I> {
         most_runs: u32,
     ) -> Result<Store<I>, NoMemory>
         requires empty { I.entries index ≡ [] }
-        requires few { most_runs ≤ 4294967294 }
+        requires few { most_runs ≤ last_run }
         ensures empty { IfOk result (λ store. store ≡ empty_state most_runs) }
         ensures stands { IfOk result (λ store. IsSoundAt [] store) }
     {
@@ -161,7 +162,7 @@ fn step_there<I: PartIndex + Drop>(inner: &mut Box<Inner<I>>, step: Step) -> Rep
     requires fit { IsFit (inner_state inner.old.value) }
     requires few { inner.old.value.commits + length inner.old.value.txs.active ≤ 2 ^ 63 }
     requires room { HasRooms inner.old.value }
-    requires runs { inner.old.value.most_runs ≤ 4294967294 }
+    requires runs { inner.old.value.most_runs ≤ last_run }
     ensures says { MayAnswer (inner_state inner.old.value) step result }
     ensures after { inner_state inner.new.value ≡ state_after (inner_state inner.old.value) step result }
     ensures memory { result ≡ Reply.Refused OutOfMemory → may_want_memory (inner_state inner.old.value) step ≡ true }

@@ -1,4 +1,4 @@
--- Lines that stage, one after another, and the load or the put behind them.
+-- Lines that stage, one after another, and the load or the put after them.
 use Rattle.std.proofs.Common.{◌≡◌, ℕ, ◌+◌, ◌≤◌, length, List, [], ◌∷◌, ◌++◌, append_assoc, true, cond, map, Some, refl}
 use Rattle.std.proofs.Common.{sym, ap, ◌∙◌, subst, arith}
 use Rattle.std.proofs.lemmas.Bool.{le-leb}

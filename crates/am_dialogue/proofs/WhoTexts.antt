@@ -24,7 +24,7 @@ module _ (sessions : List ActiveSession) (i : ℕ) (d : ActiveSession) (inside :
       ∙ actives_words-append (take i sessions) (one ∷ [])
       ∙ ap (λ (text : List ℕ). actives_words (take i sessions) ++ text) (append-nil (active_words one))
 
-  -- those before it, it and those behind it are all
+  -- those before it, it and those after it are all
   pub around_active : (actives_words (take i sessions) ++ active_words one) ++
       actives_words (drop (i + 1) sessions) ≡ actives_words sessions
   around_active =

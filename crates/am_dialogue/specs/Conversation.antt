@@ -102,7 +102,7 @@ module _ {B : Type 0} (means : BackendMeaning B) where
   AnswersTorn old None events new = Stays old events new
   AnswersTorn old (Some e) events new = AnswersLine old e events new
 
-  -- the lines were answered in order, with these events, and behind them the one whose answer was torn
+  -- the lines were answered in order, with these events, and after them the one whose answer was torn
   abbrev pub Converses : ℕ → SessionPoint B → List Exchange → Option Exchange → Trace → SessionPoint B → Type 0
   Converses auto old [] torn events new = AnswersTorn old torn events new
   Converses auto old (e ∷ exchanges) torn events new =

@@ -33,7 +33,7 @@ state_behind s [] = s
 state_behind s (parsed ∷ lines) = state_behind (state_after_line s parsed) lines
 
 -- Each line that stages is answered OK, the load or the put of the last records as one of all of them would be, and the
--- session goes on as behind that one.
+-- session goes on as after that one.
 pub record IsAsOne (s : DialogueState) (staged : List Records) (line : Records → ParsedLine) (last : Records)
     : Type 0 where
   pub answers : responses_to s (map stage staged ++ line last ∷ []) ≡ map (λ _. Some Staged) staged ++

@@ -10,6 +10,7 @@ ghost use Rattle.am_dialogue.specs.Exchanges.{Exchange, with_torn};
 ghost use Rattle.am_dialogue.specs.Alone.{AnswersAlone};
 ghost use Rattle.am_dialogue.specs.Say.{DialogueState, Says, AreSay, StagesNothing, LosesNothing};
 ghost use Rattle.am_dialogue.specs.StagedLoads.{all_of, load, put, IsAsOne};
+ghost use Rattle.am_record.specs.Limits.{max_runs, max_run_records};
 ghost use Rattle.am_record.specs.Records.{Records};
 ghost use Rattle.am_record.specs.declared.step.Op.{Op};
 
@@ -19,7 +20,7 @@ use am_serial::sound_traces_are_runs;
 /// The answer to a last line may have been torn.
 pub fn sound_dialogues_say()
     ensures { (auto : ℕ) (exchanges : List Exchange) (torn : Option Exchange) (trace : Trace) →
-        IsSound 65535 trace → AnswersAlone auto exchanges torn trace → Says (with_torn exchanges torn) }
+        IsSound max_runs trace → AnswersAlone auto exchanges torn trace → Says (with_torn exchanges torn) }
 {
     sound_traces_are_runs();
 }
@@ -34,9 +35,9 @@ pub fn found_memory_is_said()
 /// Lines that stage records and load or put them are answered as one LOAD or PUT of all of them would be.
 pub fn staging_is_loading()
     ensures loads { (s : DialogueState) (ops : List Op) (staged : List Records) (last : Records) →
-        s.own ≡ Some ops → s.staged ≡ [] → length (all_of staged) ≤ 65536 → IsAsOne s staged load last }
+        s.own ≡ Some ops → s.staged ≡ [] → length (all_of staged) ≤ max_run_records → IsAsOne s staged load last }
     ensures puts { (s : DialogueState) (ops : List Op) (staged : List Records) (last : Records) →
-        s.own ≡ Some ops → s.staged ≡ [] → length (all_of staged) ≤ 65536 → IsAsOne s staged put last }
+        s.own ≡ Some ops → s.staged ≡ [] → length (all_of staged) ≤ max_run_records → IsAsOne s staged put last }
 {}
 
 /// Where one session alone had its steps answered by the store, each answer is one line: an LF ends it, and no other

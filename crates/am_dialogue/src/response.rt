@@ -27,7 +27,7 @@ pub enum HoldAnswer {
 pub enum EndAnswer {
     /// The session of that number ends.
     Ends,
-    /// It is the session itself, which ends behind the answer.
+    /// It is the session itself, which ends after the answer.
     EndsItself,
     /// No session has that number.
     NoSession,
@@ -73,7 +73,7 @@ impl Response {
         }
     }
 
-    /// Whether the session ends behind it, since it ended itself.
+    /// Whether the session ends after it, since it ended itself.
     pub fn ends_itself(&self) -> bool
         ensures { result ≡ ends_itself self.now }
     {

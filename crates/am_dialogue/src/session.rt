@@ -41,6 +41,7 @@ impl Drop for Session {
 impl Model for Session {
     ghost use Rattle.std.specs.Prelude.{◌≤◌, length};
     ghost use Rattle.am_dialogue.specs.Session.{SessionState, session_code};
+    ghost use Rattle.am_record.specs.Limits.{max_run_records};
 
     ghost Value = { SessionState };
 
@@ -48,7 +49,7 @@ impl Model for Session {
 
     ghost view = { λ s. record { active = s.active; staged = s.staged.items } };
 
-    ghost invariant = { λ s. length s.staged.items ≤ 65536 };
+    ghost invariant = { λ s. length s.staged.items ≤ max_run_records };
 }
 
 impl Session {
@@ -84,7 +85,7 @@ impl Session {
         }
     }
 
-    /// Goes on behind the reply to a step that was due.
+    /// Goes on after the reply to a step that was due.
     pub fn reply(&mut self, reply: &Reply)
         ensures { self.new ≡ session_after self.old reply.now }
     {
@@ -207,7 +208,7 @@ fn hold(millis: u64) -> Action
     }
 }
 
-/// The transaction that is active behind a reply.
+/// The transaction that is active after a reply.
 pub fn active_behind(active: Option<u64>, reply: &Reply) -> Option<u64>
     ensures { result ≡ active_after active reply.now }
 {

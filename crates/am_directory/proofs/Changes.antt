@@ -1,12 +1,12 @@
 -- What a word that is put down changes.
 use Rattle.std.proofs.Common.{◌≡◌, ◌≢◌, ℕ, ◌+◌, ◌-◌, ◌<◌, ◌≤◌, ◌⊎◌, inl, inr, ⊎_elim}
-use Rattle.std.proofs.Common.{Bool, cond, eqb, List, length, get_or, set}
+use Rattle.std.proofs.Common.{Bool, true, false, cond, eqb, List, length, get_or, set}
 use Rattle.std.proofs.Common.{sym, ap, ◌∙◌, subst, arith}
 use Rattle.std.proofs.lemmas.Bool.{ne_eqb, cases_eq, cases_lt}
 use Rattle.std.proofs.lemmas.List.{length-set, get_or-set_same, get_or-set_other}
 use Rattle.std.proofs.lemmas.List.Sums.{sum_by-set}
-use Rattle.am_directory.specs.Tables.{label, code, code_of, home_index, empty_in, IsBefore, IsPassed}
-use Rattle.am_directory.specs.Tables.{IsComeTo, IsEnd, IsTable, HasPut}
+use Rattle.am_directory.specs.Tables.{label, code, code_of, home_index, empty_in, IsBefore, IsPassed, IsComeTo, IsEnd}
+use Rattle.am_directory.specs.Tables.{IsTable, HasPut}
 use Rattle.am_directory.proofs.Looks.{Stands, Lacks, has_or_lacks, code_of-none, code_of-end}
 
 -- each word that is not empty stands where its label is looked for
@@ -57,8 +57,21 @@ code_of-stands words sought at placed stands =
 abbrev pub one_if : Bool → ℕ
 one_if b = cond b 1 0
 
+pub at_most_one : (b : Bool) → one_if b ≤ 1
+at_most_one true = omega arith
+at_most_one false = omega arith
+
 not_empty : (word : ℕ) → word ≢ 0 → one_if (eqb word 0) ≡ 0
 not_empty word full = ap one_if (ne_eqb word 0 full)
+
+-- the empty words are one fewer, where a word took one
+pub empty_set : (words : List ℕ) (at word : ℕ) → at < length words → word ≢ 0 →
+    empty_in (set words at word) + one_if (eqb (get_or words at 0) 0) ≡ empty_in words
+empty_set words at word within full = omega (
+  arith,
+  not_empty word full,
+  sum_by-set (λ (w : ℕ). one_if (eqb w 0)) words at word 0 within,
+)
 
 -- a word put down where the look for its label ends
 module _ (words : List ℕ) (at word : ℕ) (placed : InPlace words) (end : IsEnd words (label word) at) (full : word ≢ 0)
@@ -147,21 +160,13 @@ module _ (words : List ℕ) (at word : ℕ) (placed : InPlace words) (end : IsEn
         (cases_eq i at))))
         (has_or_lacks after sought)
 
-    -- the empty words are one fewer, where the word took one
-    pub fewer_empty : empty_in after + one_if (eqb (get_or words at 0) 0) ≡ empty_in words
-    fewer_empty = omega (
-      arith,
-      not_empty word full,
-      sum_by-set (λ (w : ℕ). one_if (eqb w 0)) words at word 0 end.come.within,
-    )
-
 -- a word put down leaves a table
 pub table_put : (words : List ℕ) (empty at word : ℕ) → IsTable words empty → IsEnd words (label word) at → 0 < word →
     IsTable (set words at word) (empty - one_if (eqb (get_or words at 0) 0))
 table_put words empty at word table end full =
     let some : word ≢ 0 = λ e. omega arith in
     record {
-      counted = omega (arith, table.counted, fewer_empty words at word table.in_place end some);
+      counted = omega (arith, table.counted, empty_set words at word end.come.within some);
       short = omega (arith, table.short, length-set words at word);
       in_place = placed_now words at word table.in_place end some;
     }

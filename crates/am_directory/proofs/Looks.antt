@@ -8,8 +8,8 @@ use Rattle.std.proofs.lemmas.Slice.{between_to_end}
 use Rattle.std.proofs.lemmas.Bool.{cases_eq, cases_lt}
 use Rattle.std.proofs.lemmas.Bool.Decides.{nat_tests}
 use Rattle.std.proofs.lemmas.List.{get_or_append_left, get_or-append-add, get_or-take, get_or-drop}
-use Rattle.am_directory.specs.Tables.{label, code, code_on, code_of, way_from, home_index, IsPassed, ArePassed}
-use Rattle.am_directory.specs.Tables.{IsEnd, IsFirstEnd, empty_in, is_free}
+use Rattle.am_directory.specs.Tables.{label, code, code_on, code_of, way_from, home_index, IsPassed, ArePassed, IsEnd}
+use Rattle.am_directory.specs.Tables.{IsFirstEnd, empty_in, is_free}
 
 -- a word at which a look for the label ends
 abbrev pub Ends : ℕ → ℕ → Type 0

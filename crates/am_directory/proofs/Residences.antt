@@ -1,39 +1,41 @@
 -- What a directory tells by the code of a label.
 use Rattle.std.proofs.Common.{◌≡◌, ◌≢◌, ⊎_elim, if◌then◌else◌, ℕ, Bool, true, false, List, [], sym, ap, ◌∙◌, ◌-◌, refl}
 use Rattle.std.proofs.Common.{subst, arith}
-use Rattle.std.proofs.Common.{◌<◌, ◌≤◌, ltb, leb, eqb, cond, get_or, length}
+use Rattle.std.proofs.Common.{◌%◌, ◌<◌, ◌≤◌, ltb, leb, eqb, cond, get_or, length}
 use Rattle.std.specs.List.{list_all}
 use Rattle.std.proofs.lemmas.Bool.{cases_Bool, cases_eq, ne_eqb, cond-false, cond-true, false≢true}
 use Rattle.std.proofs.lemmas.List.Folds.{list_all_at}
 use Rattle.std.proofs.lemmas.Bool.Decides.{nat_tests}
 use Rattle.am_directory.specs.declared.residence.Residence.{Residence}
 use Rattle.am_directory.specs.declared.residence.Residence.TheVariants.{Nowhere, In, Unknown}
-use Rattle.am_directory.specs.Tables.{Table, label, code, code_of, residence_by, residence_of, left, HasPut, HasLeft}
-use Rattle.am_directory.specs.Tables.{is_free, are_free, code_left, code_let_go, HasCode}
+use Rattle.am_directory.specs.Tables.{Tables, label, code, code_of, code_in, piece_of, residence_by, residence_of}
+use Rattle.am_directory.specs.Tables.{left, HasPutIn, HasLeft, is_free, are_free, code_left, code_let_go, HasCode}
 use Rattle.am_directory.proofs.Looks.{code_of-free, code_of-none}
 
-pub residence_of-lost : (table : Table) (n : ℕ) → table.is_lost ≡ true → residence_of table n ≡ Unknown
+pub residence_of-lost : (table : Tables) (n : ℕ) → table.is_lost ≡ true → residence_of table n ≡ Unknown
 unfolding residence_of
 residence_of-lost table n lost = rw lost refl
 
-pub residence_of-code : (table : Table) (n : ℕ) → table.is_lost ≡ false →
-    residence_of table n ≡ residence_by (code_of table.words (label n))
+pub residence_of-code : (table : Tables) (n : ℕ) → table.is_lost ≡ false →
+    residence_of table n ≡ residence_by (code_in table (label n))
 unfolding residence_of
 residence_of-code table n whole = rw whole refl
 
-pub code_of-empty : (words : List ℕ) (sought : ℕ) → words ≡ [] → code_of words sought ≡ 0
-code_of-empty words sought empty = ap (λ (l : List ℕ). code_of l sought) empty ∙
-    code_of-none [] sought (λ i h. absurd (omega arith))
+pub code_in-empty : (table : Tables) (sought : ℕ) → table.first ≡ [] → table.pieces ≡ [] → code_in table sought ≡ 0
+code_in-empty table sought empty none =
+    let blank : piece_of table sought ≡ [] = ap (λ (ps : List (List ℕ)). get_or ps (sought % 256) table.first) none ∙
+    empty in
+    ap (λ (l : List ℕ). code_of l sought) blank ∙ code_of-none [] sought (λ i h. absurd (omega arith))
 
-pub residence_of-empty : (table : Table) (n : ℕ) → table.is_lost ≡ false → table.words ≡ [] →
+pub residence_of-empty : (table : Tables) (n : ℕ) → table.is_lost ≡ false → table.first ≡ [] → table.pieces ≡ [] →
     residence_of table n ≡ Nowhere
-residence_of-empty table n whole empty = residence_of-code table n whole ∙
-    ap residence_by (code_of-empty table.words (label n) empty)
+residence_of-empty table n whole empty none = residence_of-code table n whole ∙
+    ap residence_by (code_in-empty table (label n) empty none)
 
 -- where looks for all of the numbers end at once, no label of theirs has a word, and nothing is known of them
-module _ (table : Table) (numbers : List ℕ) (free : are_free table numbers ≡ true) where
+module _ (table : Tables) (numbers : List ℕ) (free : are_free table numbers ≡ true) where
   free_at : ℕ → Bool
-  free_at n = is_free table.words (label n)
+  free_at n = is_free (piece_of table (label n)) (label n)
 
   all_free : Bool
   all_free = list_all free_at numbers
@@ -45,12 +47,12 @@ module _ (table : Table) (numbers : List ℕ) (free : are_free table numbers ≡
       (λ (whole : table.is_lost ≡ false). whole)
       (cases_Bool table.is_lost)
 
-  pub none_if_free : (k d : ℕ) → k < length numbers → code_of table.words (label (get_or numbers k d)) ≡ 0
+  pub none_if_free : (k d : ℕ) → k < length numbers → code_in table (label (get_or numbers k d)) ≡ 0
   unfolding all_free free_at
   none_if_free k d lt =
       let n = get_or numbers k d in
       ⊎_elim
-      (λ (yes : free_at n ≡ true). code_of-free table.words (label n) yes)
+      (λ (yes : free_at n ≡ true). code_of-free (piece_of table (label n)) (label n) yes)
       (λ (no : free_at n ≡ false). absurd (false≢true (sym (list_all_at free_at numbers k d lt no) ∙
       (sym (cond-false table.is_lost false all_free whole) ∙ free))))
       (cases_Bool (free_at n))
@@ -59,24 +61,24 @@ module _ (table : Table) (numbers : List ℕ) (free : are_free table numbers ≡
   nowhere_if_free k d lt = residence_of-code table (get_or numbers k d) whole ∙ ap residence_by (none_if_free k d lt)
 
 -- where the code of one label alone has changed, what is told of the others stays
-pub others_told : (old new : Table) (word : ℕ) → new.is_lost ≡ old.is_lost → HasPut old.words word new.words →
+pub others_told : (old new : Tables) (at word : ℕ) → new.is_lost ≡ old.is_lost → HasPutIn old at word new →
     (n : ℕ) → label n ≢ label word → residence_of new n ≡ residence_of old n
 unfolding residence_of
-others_told old new word lost put n other =
+others_told old new at word lost put n other =
     (λ j. if lost j then Unknown else residence_by (put.others (label n) other j))
 
 -- and of its own the code tells
-pub own_told : (old new : Table) (number word : ℕ) (change : Residence → Residence) →
-    new.is_lost ≡ old.is_lost → HasPut old.words word new.words → label word ≡ label number →
+pub own_told : (old new : Tables) (number at word : ℕ) (change : Residence → Residence) →
+    new.is_lost ≡ old.is_lost → HasPutIn old at word new → label word ≡ label number →
     change Unknown ≡ Unknown →
-    residence_by (code word) ≡ change (residence_by (code_of old.words (label number))) →
+    residence_by (code word) ≡ change (residence_by (code_in old (label number))) →
     (n : ℕ) → label n ≡ label number → residence_of new n ≡ change (residence_of old n)
-own_told old new number word change lost put same unknown told n here = ⊎_elim
+own_told old new number at word change lost put same unknown told n here = ⊎_elim
     (λ (gone : old.is_lost ≡ true). residence_of-lost new n (lost ∙ gone) ∙ sym unknown ∙
     ap change (sym (residence_of-lost old n gone)))
     (λ (whole : old.is_lost ≡ false). residence_of-code new n (lost ∙ whole) ∙
-    ap residence_by (ap (code_of new.words) (here ∙ sym same) ∙ put.now) ∙ told ∙
-    ap change (ap (λ (l : ℕ). residence_by (code_of old.words l)) (sym here) ∙ sym (residence_of-code old n whole)))
+    ap residence_by (ap (code_in new) (here ∙ sym same) ∙ put.now) ∙ told ∙
+    ap change (ap (λ (l : ℕ). residence_by (code_in old l)) (sym here) ∙ sym (residence_of-code old n whole)))
     (cases_Bool old.is_lost)
 
 -- a code of a run tells of it, and each below of none
@@ -103,27 +105,27 @@ left_same c lt = ⊎_elim
     (cases_eq c 3)
 
 -- where no key of the label is live in a run, none leaves
-pub none_leaves : (table : Table) (number : ℕ) → code_of table.words (label number) < 4 → HasLeft table number table
+pub none_leaves : (table : Tables) (number : ℕ) → code_in table (label number) < 4 → HasLeft table number table
 none_leaves table number none = record {
   left = λ n here. ⊎_elim
       (λ (gone : table.is_lost ≡ true). residence_of-lost table n gone ∙ ap left (sym (residence_of-lost table n gone)))
       (λ (whole : table.is_lost ≡ false).
       let told = residence_of-code table n whole in
-      told ∙ left_same (code_of table.words (label n))
-      (subst (λ (l : ℕ). code_of table.words l < 4) (sym here) none) ∙ ap left (sym told))
+      told ∙ left_same (code_in table (label n))
+      (subst (λ (l : ℕ). code_in table l < 4) (sym here) none) ∙ ap left (sym told))
       (cases_Bool table.is_lost);
   others = λ n other. refl;
 }
 
 -- the codes of the others stay, and that of the label is the word's
-pub has_code : (old new : Table) (number word : ℕ) (Is : ℕ → Type 0) → HasPut old.words word new.words →
+pub has_code : (old new : Tables) (number at word : ℕ) (Is : ℕ → Type 0) → HasPutIn old at word new →
     label word ≡ label number → Is (code word) → HasCode old number Is new
-has_code old new number word Is put same is = record {
-  now = subst Is (sym (ap (code_of new.words) (sym same) ∙ put.now)) is;
+has_code old new number at word Is put same is = record {
+  now = subst Is (sym (ap (code_in new) (sym same) ∙ put.now)) is;
   others = λ sought other. put.others sought (λ e. other (e ∙ same));
 }
 
-pub same_code : (table : Table) (number : ℕ) (Is : ℕ → Type 0) → Is (code_of table.words (label number)) →
+pub same_code : (table : Tables) (number : ℕ) (Is : ℕ → Type 0) → Is (code_in table (label number)) →
     HasCode table number Is table
 same_code table number Is is = record { now = is; others = λ sought other. refl }
 

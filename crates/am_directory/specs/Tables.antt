@@ -1,13 +1,15 @@
 -- What a directory knows of the keys of a label.
-use Rattle.std.specs.Prelude.{◌≡◌, ◌≢◌, ◌⊎◌, ℕ, ◌+◌, ◌-◌, ◌*◌, ◌/◌, ◌%◌, ◌^◌, ◌<◌, ◌≤◌, ◌==◌, nat_lt, nat_le, Bool}
-use Rattle.std.specs.Prelude.{List, [], ◌∷◌, ◌++◌, length, take, drop, slice_index, false, if◌then◌else◌}
+use Rattle.std.specs.Prelude.{◌≡◌, ◌≢◌, ◌⊎◌, ℕ, ◌+◌, ◌-◌, ◌*◌, ◌/◌, ◌%◌, ◌^◌, ◌<◌, ◌≤◌, ◌==◌, ◌&&◌, nat_lt, nat_le, min}
+use Rattle.std.specs.Prelude.{List, [], ◌∷◌, ◌++◌, length, take, drop, get_or, slice_index, slice_set, Bool, false}
+use Rattle.std.specs.Prelude.{if◌then◌else◌}
 use Rattle.std.specs.List.{count_by, list_all}
 use Rattle.am_directory.specs.declared.residence.Residence.{Residence}
 use Rattle.am_directory.specs.declared.residence.Residence.TheVariants.{Nowhere, In, Unknown}
 
--- a hash table of words; one that is lost knows nothing
-pub record Table : Type 0 where
-  pub words : List ℕ
+-- a hash table of words, or 256 of them, the pieces, where it would be large. Those that are lost know nothing
+pub record Tables : Type 0 where
+  pub first : List ℕ
+  pub pieces : List (List ℕ)
   pub is_lost : Bool
 
 -- the upper bits of a key's number, by which a table knows it. A word is 0, and empty, or has a label and a code
@@ -36,14 +38,26 @@ way_from home words = drop home words ++ take home words
 unfoldable pub code_of : List ℕ → ℕ → ℕ
 code_of words sought = code_on (way_from (home_index (length words) sought) words) sought
 
+-- the table in which the word of a label stands: the piece of its lower 8 bits or, where there are none, the first
+abbrev pub piece_of : Tables → ℕ → List ℕ
+piece_of tables sought = get_or tables.pieces (sought % 256) tables.first
+
+-- which of them that is
+abbrev pub piece_index : Tables → ℕ → ℕ
+piece_index tables sought = min (sought % 256) (length tables.pieces)
+
+-- the code of the label there
+abbrev pub code_in : Tables → ℕ → ℕ
+code_in tables sought = code_of (piece_of tables sought) sought
+
 -- what a code says: that no key of the label is live (1, in a word that may be left out, and 2), that nothing is known
 -- of them (3), or that one is live, in run 0 (4), run 1 (5) and so on
 abbrev pub residence_by : ℕ → Residence
 residence_by c = if nat_lt c 3 then Nowhere else (if c == 3 then Unknown else In (c - 4))
 
 -- what is known of the keys of the number's label
-unfoldable pub residence_of : Table → ℕ → Residence
-residence_of table n = if table.is_lost then Unknown else residence_by (code_of table.words (label n))
+unfoldable pub residence_of : Tables → ℕ → Residence
+residence_of tables n = if tables.is_lost then Unknown else residence_by (code_in tables (label n))
 
 -- a look for the label ends where it begins, since no word stands there
 abbrev pub is_free : List ℕ → ℕ → Bool
@@ -52,8 +66,9 @@ is_free words sought =
     if nat_lt home (length words) then slice_index words home == 0 else false
 
 -- so do the looks for all of these numbers
-abbrev pub are_free : Table → List ℕ → Bool
-are_free table numbers = if table.is_lost then false else list_all (λ n. is_free table.words (label n)) numbers
+abbrev pub are_free : Tables → List ℕ → Bool
+are_free tables numbers =
+    if tables.is_lost then false else list_all (λ n. is_free (piece_of tables (label n)) (label n)) numbers
 
 -- the code of a label that was put down as live in the run: that one, or that nothing is known; or none had room
 abbrev pub IsEntered : ℕ → ℕ → ℕ → Type 0
@@ -67,9 +82,9 @@ abbrev pub code_let_go : ℕ → ℕ
 code_let_go c = if c == 2 then 1 else c
 
 -- the number's label has a code like this, and each other label the one that it had
-pub record HasCode (old : Table) (number : ℕ) (Is : ℕ → Type 0) (new : Table) : Type 0 where
-  pub now : Is (code_of new.words (label number))
-  pub others : (sought : ℕ) → sought ≢ label number → code_of new.words sought ≡ code_of old.words sought
+pub record HasCode (old : Tables) (number : ℕ) (Is : ℕ → Type 0) (new : Tables) : Type 0 where
+  pub now : Is (code_in new (label number))
+  pub others : (sought : ℕ) → sought ≢ label number → code_in new sought ≡ code_in old sought
 
 -- how many words are empty
 abbrev pub empty_in : List ℕ → ℕ
@@ -78,6 +93,10 @@ empty_in words = count_by (λ word. word == 0) words
 -- how many words a table made anew has to keep
 abbrev pub kept : List ℕ → ℕ
 kept words = count_by (λ word. nat_le 2 (code word)) words
+
+-- how many of them belong to a piece
+abbrev pub kept_by : ℕ → List ℕ → ℕ
+kept_by piece words = count_by (λ word. nat_le 2 (code word) && (label word % 256 == piece)) words
 
 -- a key more is live in the run. Of two live keys of a label nothing is known from then on
 abbrev pub entered : Residence → ℕ → Residence
@@ -92,12 +111,12 @@ left (In run) = Nowhere
 left Unknown = Unknown
 
 -- the key of the number, live in no run before, is live in that run
-pub record HasEntered (old : Table) (number run : ℕ) (new : Table) : Type 0 where
+pub record HasEntered (old : Tables) (number run : ℕ) (new : Tables) : Type 0 where
   pub entered : (n : ℕ) → label n ≡ label number → residence_of new n ≡ entered (residence_of old n) run
   pub others : (n : ℕ) → label n ≢ label number → residence_of new n ≡ residence_of old n
 
 -- the key of the number, live in a run before, is not any more
-pub record HasLeft (old : Table) (number : ℕ) (new : Table) : Type 0 where
+pub record HasLeft (old : Tables) (number : ℕ) (new : Tables) : Type 0 where
   pub left : (n : ℕ) → label n ≡ label number → residence_of new n ≡ left (residence_of old n)
   pub others : (n : ℕ) → label n ≢ label number → residence_of new n ≡ residence_of old n
 
@@ -144,3 +163,13 @@ pub record IsTable (words : List ℕ) (empty : ℕ) : Type 0 where
 pub record HasPut (old : List ℕ) (word : ℕ) (new : List ℕ) : Type 0 where
   pub now : code_of new (label word) ≡ code word
   pub others : (sought : ℕ) → sought ≢ label word → code_of new sought ≡ code_of old sought
+
+-- the word was put down at a place of its piece, for all that was said of its label
+pub record HasPutIn (old : Tables) (at word : ℕ) (new : Tables) : Type 0 where
+  pub now : code_in new (label word) ≡ code word
+  pub others : (sought : ℕ) → sought ≢ label word → code_in new sought ≡ code_in old sought
+  pub count : length new.pieces ≡ length old.pieces
+  pub here : piece_of new (label word) ≡ slice_set (piece_of old (label word)) at word
+  pub pieces : (sought : ℕ) → (piece_of new sought ≡ piece_of old sought) ⊎
+      ((piece_of old sought ≡ piece_of old (label word)) × (piece_of new sought ≡ piece_of new (label word)) ×
+      (piece_index old sought ≡ piece_index old (label word)))

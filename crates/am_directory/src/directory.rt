@@ -1,59 +1,63 @@
 //! A directory of the keys that are live in runs.
 
-ghost use Rattle.std.specs.Prelude.{◌≡◌, ◌≢◌, ◌⊎◌, ◌<◌, ◌≤◌, ◌+◌, ◌*◌, ◌/◌, ◌^◌, ℕ, false, length, max, replicate};
-ghost use Rattle.std.specs.Prelude.{slice_index, slice_set, true, MatchOption, OnOk, OnErr, IfOk};
+ghost use Rattle.std.specs.Prelude.{◌≡◌, ◌≢◌, ◌⊎◌, ◌<◌, ◌≤◌, ◌+◌, ◌%◌, ◌^◌, ℕ, List, ◌∷◌, false, true, nat_lt};
+ghost use Rattle.std.specs.Prelude.{length, max, slice_index, MatchOption, OnOk, OnErr};
 ghost use Rattle.am_directory.specs.declared.residence.Residence.TheVariants.{Nowhere};
 ghost use Rattle.std.specs.List.{All};
-ghost use Rattle.am_directory.specs.Tables.{are_free, code, code_of, empty_in, home_index, is_free, kept, label};
-ghost use Rattle.am_directory.specs.Tables.{residence_of};
-ghost use Rattle.am_directory.specs.Tables.{code_left, code_let_go, IsEntered, HasCode, HasEntered, HasLeft, HasPut};
-ghost use Rattle.am_directory.specs.Tables.{IsEnd, ArePassed};
+ghost use Rattle.am_directory.specs.Tables.{are_free, code_in, empty_in, is_free, kept, kept_by, label, piece_of};
+ghost use Rattle.am_directory.specs.Tables.{residence_of, code_left, code_let_go};
+ghost use Rattle.am_directory.specs.Tables.{IsEntered, HasCode, HasEntered, HasLeft, HasPutIn, IsEnd};
+ghost use Rattle.am_directory.specs.Room.{counted_at, share_of, words_for};
+ghost use Rattle.am_directory.specs.Room.{AreCounted, HasRoom, HasSpare, HaveSpare, IsReserved};
+ghost use Rattle.am_directory.specs.Found.{IsFound, IsFull};
 
-use crate::seek::{count_kept, seek};
+use crate::counts::LabelCounts;
+use crate::piece::{Found, Piece};
+use crate::pieces::{in_pieces, reserve_all};
 use crate::{Residence, word};
 use am_record::NoMemory;
 use std::alloc::Global;
 use std::marker::Model;
 
-/// A table has at least so many words.
-const FEWEST: usize = 64;
+/// One table is made anew as such up to so many labels, and with more in pieces.
+const MOST_IN_ONE: usize = 32_768;
 
-/// How many labels a table is made for at most.
-const MOST: usize = 1 << 30;
+/// The share of words of a table that is no piece: two for each label.
+const EVEN: usize = 128;
 
-/// Where room is got, one of so many words stays empty beside what was asked for, so that looks are short.
-const SPARE: usize = 5;
-
-/// Tells in which run a key is live, by the key's number. It is a hash table with linear probing (Knuth, The Art of
-/// Computer Programming 3, 6.4), of a word for each label, the upper 47 bits of a number.
+/// Tells in which run a key is live, by the key's number. It is a hash table of a word for each label, the upper 47
+/// bits of a number. Once it is large, it is in pieces, which are made anew one by one.
 #[derive(Drop)]
 pub struct Directory {
-    words: Vec<u64>,
-    empty: usize,
+    // All words, while there are no pieces.
+    first: Piece,
+    // 256 of them, or none.
+    pieces: Vec<Piece>,
     is_lost: bool,
     alloc: Global,
 }
 
 impl Model for Directory {
-    ghost use Rattle.am_directory.specs.Tables.{Table, IsTable};
+    ghost use Rattle.std.specs.Prelude.{◌≡◌, ◌⊎◌, length};
+    ghost use Rattle.am_directory.specs.Tables.{Tables};
 
-    ghost Value = { Table };
+    ghost Value = { Tables };
 
-    ghost view = { λ d. record { words = d.words.items; is_lost = d.is_lost } };
+    ghost view = { λ d. record { first = d.first; pieces = d.pieces.items; is_lost = d.is_lost } };
 
-    ghost invariant = { λ d. IsTable d.words.items d.empty };
+    ghost invariant = { λ d. (length d.pieces.items ≡ 0) ⊎ (length d.pieces.items ≡ 256) };
 }
 
 impl Directory {
     /// An empty directory. Takes no memory.
     pub fn new(alloc: Global) -> Directory
         ensures empty { (n : ℕ) → residence_of result n ≡ Nowhere }
-        ensures none { (sought : ℕ) → code_of result.words sought ≡ 0 }
+        ensures none { (sought : ℕ) → code_in result sought ≡ 0 }
         ensures whole { result.is_lost ≡ false }
     {
         Directory {
-            words: Vec::new(alloc),
-            empty: 0,
+            first: Piece::new(alloc),
+            pieces: Vec::new(alloc),
             is_lost: false,
             alloc,
         }
@@ -75,7 +79,7 @@ impl Directory {
     pub fn are_free(&self, numbers: &[u64]) -> bool
         ensures exact { result ≡ are_free self.now numbers.now }
         ensures nowhere { result ≡ true → All (λ n. residence_of self.now n ≡ Nowhere) numbers.now }
-        ensures none { result ≡ true → All (λ n. code_of self.now.words (label n) ≡ 0) numbers.now }
+        ensures none { result ≡ true → All (λ n. code_in self.now (label n) ≡ 0) numbers.now }
     {
         let mut are_free = !self.is_lost;
         for number in numbers {
@@ -84,42 +88,54 @@ impl Directory {
         are_free
     }
 
-    /// Gets room for so many labels more.
+    /// Gets room for as many labels more as are counted. One word of five is empty beside that room, so that looks are
+    /// short. One table of more than 32,768 labels is made anew in pieces, and each of these by itself.
     ///
     /// # Errors
-    /// NoMemory, where memory was refused or more than 2^31 words would be needed; nothing is changed. One word of five
-    /// is empty beside that room, so that looks are short.
-    pub fn reserve(&mut self, count: usize) -> Result<(), NoMemory>
+    /// NoMemory, where memory was refused or one table or piece would be for more than 2^30 labels; no room is lost.
+    pub fn reserve(&mut self, counts: &LabelCounts) -> Result<(), NoMemory>
         ensures same { (n : ℕ) → residence_of self.new n ≡ residence_of self.old n }
         ensures lost { self.new.is_lost ≡ self.old.is_lost }
-        ensures codes { (sought : ℕ) → (code_of self.new.words sought ≡ 0) ⊎
-            (code_of self.new.words sought ≡ code_of self.old.words sought) }
-        ensures room { OnOk result (count ≤ empty_in self.new.words) }
-        ensures spare { OnOk result (count + length self.new.words / 5 ≤ empty_in self.new.words) }
-        ensures size { length self.new.words ≤ max (length self.old.words)
-            (max 64 (4 * (kept self.old.words + count))) }
-        ensures err { OnErr result (self.new ≡ self.old) }
+        ensures codes { (sought : ℕ) → (code_in self.new sought ≡ 0) ⊎
+            (code_in self.new sought ≡ code_in self.old sought) }
+        ensures room { OnOk result ((numbers : List ℕ) → AreCounted numbers counts.now → HasRoom self.new numbers) }
+        ensures spare { OnOk result (HaveSpare counts.now self.new) }
+        ensures size { length self.new.pieces ≡ length self.old.pieces → (sought : ℕ) →
+            length (piece_of self.new sought) ≤ max (length (piece_of self.old sought)) (words_for
+            (kept (piece_of self.old sought)) (counted_at self.old counts.now sought) (share_of self.old sought)) }
+        ensures split { length self.new.pieces ≢ length self.old.pieces → (sought : ℕ) →
+            length (piece_of self.new sought) ≡ words_for (kept_by (sought % 256) self.old.first)
+            (counted_at self.new counts.now sought) (sought % 256) }
+        ensures still { (sought : ℕ) →
+            HasSpare (counted_at self.old counts.now sought) (piece_of self.old sought) →
+            piece_of self.new sought ≡ piece_of self.old sought }
+        ensures one { kept self.old.first + counts.now.all ≤ 32768 →
+            length self.new.pieces ≡ length self.old.pieces }
+        ensures large { length self.new.pieces ≡ 0 → (self.new.first ≡ self.old.first) ⊎
+            (kept self.old.first + counts.now.all ≤ 32768) }
+        ensures err { OnErr result ((numbers : List ℕ) → HasRoom self.old numbers → HasRoom self.new numbers) }
     {
-        let has_room = count <= self.empty && self.words.len() / SPARE <= self.empty - count;
-        if !has_room {
-            *self = self.made_anew(count)?;
+        if self.pieces.is_empty() {
+            self.reserve_first(counts)
+        } else {
+            reserve_all(&mut self.pieces, counts, self.alloc)
         }
-        Ok(())
     }
 
     /// Puts down that a key of the number, live in no run before, is live in that run. Takes no memory: where no word
     /// is left for it, the directory is lost, and tells of all keys that nothing is known.
     pub fn enter(&mut self, number: u64, run: u32)
         ensures entered { self.new.is_lost ≡ false → HasEntered self.old number run self.new }
-        ensures lost { self.old.is_lost ≡ false → 0 < empty_in self.old.words → self.new.is_lost ≡ false }
-        ensures code { HasCode self.old number (IsEntered (code_of self.old.words (label number)) run) self.new }
-        ensures room { empty_in self.old.words ≤ empty_in self.new.words + 1 }
+        ensures lost { self.old.is_lost ≡ false → 0 < empty_in (piece_of self.old (label number)) →
+            self.new.is_lost ≡ false }
+        ensures code { HasCode self.old number (IsEntered (code_in self.old (label number)) run) self.new }
+        ensures room { (numbers : List ℕ) → HasRoom self.old (number ∷ numbers) → HasRoom self.new numbers }
     {
         let label = word::label(number);
-        match self.find(label) {
-            Some(at) => {
-                let code = word::code_entered(word::code(self.words[at]), run);
-                self.put(at, word::word_of(label, code));
+        match self.look(label) {
+            Some(found) => {
+                let code = word::code_entered(found.code, run);
+                self.put(found.at, word::word_of(label, code));
             }
             None => self.is_lost = true,
         }
@@ -132,23 +148,24 @@ impl Directory {
         ensures known { result ≡ residence_of self.old number }
         ensures entered { result ≡ Nowhere → self.new.is_lost ≡ false → HasEntered self.old number run self.new }
         ensures same { result ≢ Nowhere → self.new ≡ self.old }
-        ensures lost { self.old.is_lost ≡ false → 0 < empty_in self.old.words → self.new.is_lost ≡ false }
-        ensures code { HasCode self.old number (IsEntered (code_of self.old.words (label number)) run) self.new }
-        ensures room { empty_in self.old.words ≤ empty_in self.new.words + 1 }
+        ensures lost { self.old.is_lost ≡ false → 0 < empty_in (piece_of self.old (label number)) →
+            self.new.is_lost ≡ false }
+        ensures code { HasCode self.old number (IsEntered (code_in self.old (label number)) run) self.new }
+        ensures room { (numbers : List ℕ) → HasRoom self.old (number ∷ numbers) → HasRoom self.new numbers }
     {
         if self.is_lost {
             return Residence::Unknown;
         }
         let label = word::label(number);
-        let Some(at) = self.find(label) else {
+        let Some(found) = self.look(label) else {
             self.is_lost = true;
             return Residence::Nowhere;
         };
-        let code = word::code(self.words[at]);
-        if word::may_be_live(code) {
-            return word::residence_by(code);
+        if word::may_be_live(found.code) {
+            return word::residence_by(found.code);
         }
-        self.put(at, word::word_of(label, word::code_entered(code, run)));
+        let code = word::code_entered(found.code, run);
+        self.put(found.at, word::word_of(label, code));
         Residence::Nowhere
     }
 
@@ -156,15 +173,16 @@ impl Directory {
     /// entered again without room.
     pub fn leave(&mut self, number: u64)
         ensures left { HasLeft self.old number self.new }
-        ensures code { HasCode self.old number (λ c. c ≡ code_left (code_of self.old.words (label number))) self.new }
+        ensures code { HasCode self.old number (λ c. c ≡ code_left (code_in self.old (label number))) self.new }
         ensures lost { self.new.is_lost ≡ self.old.is_lost }
-        ensures room { empty_in self.new.words ≡ empty_in self.old.words }
-        ensures labels { (i : ℕ) → label (slice_index self.new.words i) ≡ label (slice_index self.old.words i) }
+        ensures room { (sought : ℕ) → empty_in (piece_of self.new sought) ≡ empty_in (piece_of self.old sought) }
+        ensures labels { (sought i : ℕ) → label (slice_index (piece_of self.new sought) i) ≡
+            label (slice_index (piece_of self.old sought) i) }
     {
         let label = word::label(number);
-        if let Some(at) = self.find(label) {
-            if word::code(self.words[at]) >= word::FIRST {
-                self.put(at, word::word_of(label, word::ASLEEP));
+        if let Some(found) = self.look(label) {
+            if found.code >= word::FIRST {
+                self.put(found.at, word::word_of(label, word::ASLEEP));
             }
         }
     }
@@ -173,17 +191,18 @@ impl Directory {
     /// label is live, the word stays.
     pub fn let_go(&mut self, number: u64)
         ensures same { (n : ℕ) → residence_of self.new n ≡ residence_of self.old n }
-        ensures code { HasCode self.old number (λ c. c ≡ code_let_go (code_of self.old.words (label number))) self.new }
+        ensures code { HasCode self.old number (λ c. c ≡ code_let_go (code_in self.old (label number))) self.new }
         ensures lost { self.new.is_lost ≡ self.old.is_lost }
-        ensures room { empty_in self.new.words ≡ empty_in self.old.words }
-        ensures labels { (i : ℕ) → label (slice_index self.new.words i) ≡ label (slice_index self.old.words i) }
-        ensures gone { code_of self.old.words (label number) ≡ 2 →
-            (code_of self.new.words (label number) ≡ 1) × (kept self.new.words + 1 ≡ kept self.old.words) }
+        ensures room { (sought : ℕ) → empty_in (piece_of self.new sought) ≡ empty_in (piece_of self.old sought) }
+        ensures labels { (sought i : ℕ) → label (slice_index (piece_of self.new sought) i) ≡
+            label (slice_index (piece_of self.old sought) i) }
+        ensures gone { code_in self.old (label number) ≡ 2 → (code_in self.new (label number) ≡ 1) ×
+            (kept (piece_of self.new (label number)) + 1 ≡ kept (piece_of self.old (label number))) }
     {
         let label = word::label(number);
-        if let Some(at) = self.find(label) {
-            if word::code(self.words[at]) == word::ASLEEP {
-                self.put(at, word::word_of(label, word::GONE));
+        if let Some(found) = self.look(label) {
+            if found.code == word::ASLEEP {
+                self.put(found.at, word::word_of(label, word::GONE));
             }
         }
     }
@@ -191,107 +210,86 @@ impl Directory {
     // The code of a label.
     fn code_of(&self, sought: u64) -> u64
         requires { sought < 2 ^ 47 }
-        ensures value { result ≡ code_of self.now.words sought }
+        ensures value { result ≡ code_in self.now sought }
         ensures below { result < 2 ^ 17 }
     {
-        match self.find(sought) {
-            Some(at) => word::code(self.words[at]),
+        match self.look(sought) {
+            Some(found) => found.code,
             None => 0,
         }
     }
 
-    // Whether no word stands where the look for the label begins.
+    // Whether no word stands where the look for the label begins. By a branch the word is asked for without waiting for
+    // which table it is.
     fn is_free(&self, sought: u64) -> bool
         requires { sought < 2 ^ 47 }
-        ensures { result ≡ is_free self.now.words sought }
+        ensures { result ≡ is_free (piece_of self.now sought) sought }
     {
-        let home = self.home(sought);
-        home < self.words.len() && self.words[home] == 0
-    }
-
-    // The place of the label's word, or of the empty word that it would take.
-    fn find(&self, sought: u64) -> Option<usize>
-        requires { sought < 2 ^ 47 }
-        ensures { MatchOption result (ArePassed sought self.now.words (length self.now.words))
-            (IsEnd self.now.words sought) }
-    {
-        let home = self.home(sought);
-        match seek(&self.words[home..], sought) {
-            Some(at) => Some(home + at),
-            None => seek(&self.words[..home], sought),
+        let piece = word::piece_of(sought);
+        if piece < self.pieces.len() {
+            self.pieces[piece].is_free(sought)
+        } else {
+            self.first.is_free(sought)
         }
     }
 
-    // Where a look for the label begins.
-    fn home(&self, sought: u64) -> usize
+    // Where the look for the label ends in its piece.
+    fn look(&self, sought: u64) -> Option<Found>
         requires { sought < 2 ^ 47 }
-        ensures value { result ≡ home_index (length self.now.words) sought }
-        ensures in_range { result ≤ length self.now.words }
+        ensures { MatchOption result (IsFull (piece_of self.now sought) sought)
+            (IsFound (piece_of self.now sought) sought) }
     {
-        let count = self.words.len() as u64;
-        (((sought >> 15) * count) >> 32) as usize
+        self.piece(sought).look(sought)
+    }
+
+    // The piece of the label or, where there are none, all words.
+    fn piece(&self, sought: u64) -> &Piece
+        ensures { result.now ≡ piece_of self.now sought }
+    {
+        let piece = word::piece_of(sought);
+        if piece < self.pieces.len() {
+            &self.pieces[piece]
+        } else {
+            &self.first
+        }
     }
 
     // Puts the word where the look for its label ends.
     fn put(&mut self, at: usize, word: u64)
-        requires end { IsEnd self.old.words (label word) at }
+        requires end { IsEnd (piece_of self.old (label word)) (label word) at }
         requires some { 0 < word }
-        ensures words { self.new.words ≡ slice_set self.old.words at word }
         ensures lost { self.new.is_lost ≡ self.old.is_lost }
-        ensures put { HasPut self.old.words word self.new.words }
+        ensures put { HasPutIn self.old at word self.new }
     {
-        self.empty -= usize::from(self.words[at] == 0);
-        self.words[at] = word;
-    }
-
-    // The same in a table made anew, with room for so many labels more.
-    fn made_anew(&self, count: usize) -> Result<Directory, NoMemory>
-        ensures same { IfOk result (λ d. (n : ℕ) → residence_of d n ≡ residence_of self.now n) }
-        ensures lost { IfOk result (λ d. d.is_lost ≡ self.now.is_lost) }
-        ensures codes { IfOk result (λ d. (sought : ℕ) → (code_of d.words sought ≡ 0) ⊎
-            (code_of d.words sought ≡ code_of self.now.words sought)) }
-        ensures room { IfOk result (λ d. length d.words ≤ empty_in d.words + kept self.now.words) }
-        ensures size { IfOk result (λ d. length d.words ≡ max 64 (2 * (kept self.now.words + count))) }
-    {
-        let mut anew = self.emptied(count)?;
-        for word in &self.words {
-            if word::is_kept(*word) {
-                anew.add(*word);
-            }
-        }
-        Ok(anew)
-    }
-
-    // A table of empty words, twice as many as will be taken by those that are kept and so many labels more.
-    fn emptied(&self, count: usize) -> Result<Directory, NoMemory>
-        ensures empty { IfOk result (λ d. d.words ≡ replicate (max 64 (2 * (kept self.now.words + count))) 0) }
-        ensures lost { IfOk result (λ d. d.is_lost ≡ self.now.is_lost) }
-    {
-        let kept = count_kept(&self.words);
-        if kept > MOST || count > MOST - kept {
-            return Err(NoMemory);
-        }
-        let length = FEWEST.max(2 * (kept + count));
-        let mut words = Vec::new(self.alloc);
-        words.resize(length, 0)?;
-        Ok(Directory {
-            words,
-            empty: length,
-            is_lost: self.is_lost,
-            alloc: self.alloc,
-        })
-    }
-
-    // Puts a word into the table.
-    fn add(&mut self, word: u64)
-        requires { 0 < word }
-        ensures put { 0 < empty_in self.old.words → HasPut self.old.words word self.new.words }
-        ensures room { empty_in self.old.words ≤ empty_in self.new.words + 1 }
-        ensures lost { self.new.is_lost ≡ self.old.is_lost }
-        ensures size { length self.new.words ≡ length self.old.words }
-    {
-        if let Some(at) = self.find(word::label(word)) {
-            self.put(at, word);
+        let piece = word::piece_of(word::label(word));
+        if piece < self.pieces.len() {
+            self.pieces[piece].put(at, word);
+        } else {
+            self.first.put(at, word);
         }
     }
+
+    // Gets room, where there are no pieces: in the one table or, where that would be large, in pieces.
+    fn reserve_first(&mut self, counts: &LabelCounts) -> Result<(), NoMemory>
+        requires none { length self.old.pieces ≡ 0 }
+        ensures reserved { IsReserved self.old counts.now self.new }
+        ensures room { OnOk result ((numbers : List ℕ) → AreCounted numbers counts.now → HasRoom self.new numbers) }
+        ensures spare { OnOk result (HaveSpare counts.now self.new) }
+        ensures err { OnErr result ((numbers : List ℕ) → HasRoom self.old numbers → HasRoom self.new numbers) }
+    {
+        let count = counts.all();
+        if self.first.has_room(count) || !needs_pieces(self.first.count_kept(), count) {
+            return self.first.reserve(count, EVEN, self.alloc);
+        }
+        self.pieces = in_pieces(self.first.words(), counts, self.alloc)?;
+        self.first = Piece::new(self.alloc);
+        Ok(())
+    }
+}
+
+// Whether so many labels that are kept and so many more are too many for one table.
+fn needs_pieces(kept: usize, count: usize) -> bool
+    ensures { result ≡ nat_lt 32768 (kept + count) }
+{
+    kept > MOST_IN_ONE || count > MOST_IN_ONE - kept
 }

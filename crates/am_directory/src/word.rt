@@ -1,6 +1,6 @@
 //! What a word says.
 
-ghost use Rattle.std.specs.Prelude.{◌≡◌, ◌<◌, ◌≤◌, ◌^◌, nat_le};
+ghost use Rattle.std.specs.Prelude.{◌≡◌, ◌<◌, ◌≤◌, ◌%◌, ◌^◌, nat_le};
 ghost use Rattle.am_directory.specs.Tables.{code as code_in, label as label_of, entered, residence_by};
 ghost use Rattle.am_directory.specs.declared.residence.Residence.TheVariants.{Nowhere};
 
@@ -23,6 +23,17 @@ const LAST_RUN: u32 = 65_535;
 
 /// A word is so many times its label, and its code.
 const CODES: u64 = 1 << 17;
+
+/// How many pieces a directory has, where it has more than one table.
+pub(crate) const PIECES: usize = 256;
+
+/// The piece of a label: its lower bits, since a look begins in it by the upper ones.
+pub(crate) fn piece_of(label: u64) -> usize
+    ensures value { result ≡ label % 256 }
+    ensures below { result < 256 }
+{
+    (label % PIECES as u64) as usize
+}
 
 /// The label of a number or a word.
 pub(crate) fn label(number: u64) -> u64

@@ -40,7 +40,7 @@ passes comes stage stage' s s' came unclosed unclosed' took rest h =
       subst (λ (l : List ℕ). comes s l) (sym (append_assoc came rest front.0)) (took (rest ++ front.0) front.1),
     )
 
--- bytes were passed on, and those behind them were not
+-- bytes were passed on, and those after them were not
 pub closes : {S : Type 0} (comes : S → List ℕ → Type 0) (stage stage' : Stage) (s s' : S) (passed held : List ℕ) →
     stage ≢ Closed → stage' ≡ Closed → Took comes s (passed ++ held) s' → (rest : List ℕ) →
     may_come_at comes stage' s' rest → may_come_at comes stage s (passed ++ rest)

@@ -54,7 +54,7 @@ front_is front =
     ap (λ n. take n (front ++ 32 ∷ version)) (omega (arith, length-append front (32 ∷ version))) ∙
     take-append_seam front (32 ∷ version)
 
--- no blank stands before a first word, or behind a last one
+-- no blank stands before a first word, or after a last one
 none_before : (word rest : List ℕ) → IsWord word → prefix_len blank (word ++ rest) ≡ 0
 none_before [] rest is = absurd (is.0 refl)
 none_before (byte ∷ word) rest is =

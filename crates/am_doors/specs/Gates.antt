@@ -23,11 +23,11 @@ deed_of Bounded Failure false = End
 abbrev pub is_closed : Mode → Bool → Bool → Bool
 is_closed mode accepted_all is_stopped = is_stopped || (not accepted_all && not (stays mode))
 
--- whether a round of the keeper ends where so many steps come behind others: at each 1,024th
+-- whether a round of the keeper ends where so many steps come after others: at each 1,024th
 abbrev pub ends_round : ℕ → ℕ → Bool
 ends_round before steps = nat_lt (before / 1024) (min 18446744073709551615 (before + steps) / 1024)
 
--- how many turns workers get for so many lines that were answered behind others: one for each, and while they rest one
+-- how many turns workers get for so many lines that were answered after others: one for each, and while they rest one
 -- at each 1,024th
 abbrev pub turns_for : Bool → ℕ → ℕ → ℕ
 turns_for false before lines = lines

@@ -39,12 +39,12 @@ is_version word = begins_in_any_case word (codes "http/") && is_number (drop 5 w
 abbrev pub own_fronts : List (List ℕ)
 own_fronts = codes "INS " ∷ codes "REP " ∷ codes "SET " ∷ codes "LOCK S " ∷ codes "LOCK X " ∷ []
 
--- whether a text, which no blank ends, has two words or more, and a version behind them
+-- whether a text, which no blank ends, has two words or more, and a version after them
 abbrev pub ends_request : List ℕ → Bool
 ends_request text =
     is_version (after_last is_ascii_whitespace text) && has_two_words (before_last is_ascii_whitespace text)
 
--- A request of HTTP: a method, what it is asked of, and a version behind them.
+-- A request of HTTP: a method, what it is asked of, and a version after them.
 abbrev pub is_request_line : List ℕ → Bool
 is_request_line line =
     ends_request (without_blanks line) && not (list_any (starts_with nat_eq line) own_fronts)

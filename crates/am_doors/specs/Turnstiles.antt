@@ -57,7 +57,7 @@ abbrev pub left_of : Option Holder → List Waiter → List Waiter
 left_of None waiting = drop 1 waiting
 left_of (Some holder) waiting = waiting
 
--- who waits where one more would: all that did, and it behind them, unless 512 did
+-- who waits where one more would: all that did, and it after them, unless 512 did
 abbrev pub joined_by : List Waiter → Waiter → List Waiter
 joined_by waiting waiter = if nat_lt (length waiting) 512 then waiting ++ waiter ∷ [] else waiting
 

@@ -69,7 +69,7 @@ came (SeatFree ∷ happenings) = came happenings
 came (OneGoes round is_stopped ∷ happenings) = came happenings
 
 -- Whatever happened at a gate: the connections left in the order in which they came, those that were served among them,
--- and those that wait came behind them, in that order too.
+-- and those that wait came after them, in that order too.
 abbrev pub LeaveInOrder : Type 0
 LeaveInOrder = (happenings : List Happening) → let gate = gate_behind happenings empty_gate in
     map stream_of gate.left ++ map (λ w. w.stream) gate.line ≡ came happenings
@@ -109,7 +109,7 @@ abbrev pub turns_behind : List Turn → Turns → Turns
 turns_behind [] t = t
 turns_behind (turn ∷ turns) t = turns_behind turns (turns_after turn t)
 
--- Whatever happened at a turnstile: the sessions that went on, and behind them those that wait, are those that were let
+-- Whatever happened at a turnstile: the sessions that went on, and after them those that wait, are those that were let
 -- in to wait, in their order.
 abbrev pub GoOnInOrder : Type 0
 GoOnInOrder = (turns : List Turn) → let t = turns_behind turns no_turns in t.went ++ t.waiting ≡ t.joined

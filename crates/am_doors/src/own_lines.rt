@@ -26,7 +26,7 @@ enum Stage {
 }
 
 /// A source that fails from where its bytes cease to be lines of the protocol: at its first byte, where that begins no
-/// such line, or at the end of a line of HTTP. So a session behind it ends as where its connection was lost, and takes
+/// such line, or at the end of a line of HTTP. So a session after it ends as where its connection was lost, and takes
 /// no such line.
 #[derive(Drop)]
 pub struct OwnLines<S: Source + Drop> {

@@ -33,7 +33,7 @@ fn next_for(sessions: u64, taken: u64, given: u64) -> Next
     }
 }
 
-// How many turns workers get for so many lines that were answered behind others.
+// How many turns workers get for so many lines that were answered after others.
 fn turns_for(are_resting: bool, before: u64, lines: u64) -> u64
     ensures { result ≡ turns_for are_resting before lines }
 {
@@ -122,7 +122,7 @@ impl MergePacer {
         }
     }
 
-    // Sleeps until a turn more than these was given, or all sessions have ended. Whoever gives a turn behind the first
+    // Sleeps until a turn more than these was given, or all sessions have ended. Whoever gives a turn after the first
     // of these steps sees that somebody sleeps; a turn given before it changes what the sleeper compares.
     fn sleep<R: Wait>(&self, rt: &R, given: u64) {
         self.sleeping.fetch_add(1, Ordering::SeqCst);
@@ -130,7 +130,7 @@ impl MergePacer {
         self.sleeping.fetch_sub(1, Ordering::SeqCst);
     }
 
-    // Takes the turn behind `taken`, unless another worker has it. What turns leave in the trace is small too.
+    // Takes the turn after `taken`, unless another worker has it. What turns leave in the trace is small too.
     fn try_take(&self, taken: u64) -> bool {
         let next = taken.wrapping_add(1);
         let took = self

@@ -17,7 +17,7 @@ pub(crate) fn round_length() -> Duration {
     Duration::from_millis(ROUND_MILLIS)
 }
 
-/// Whether a round ends where so many steps come behind others.
+/// Whether a round ends where so many steps come after others.
 pub(crate) fn ends_round(before: u64, steps: u64) -> bool
     ensures { result ≡ ends_round before steps }
 {

@@ -68,7 +68,7 @@ impl TicketLine {
         self.waiting.len()
     }
 
-    /// One more waits, behind the others. Takes no memory; whether there was room.
+    /// One more waits, after the others. Takes no memory; whether there was room.
     pub(crate) fn join(&mut self, waiter: Waiter) -> bool
         ensures room { result ≡ nat_lt (length self.old.waiting.items) 512 }
         ensures waits { self.new.waiting.items ≡ joined_by self.old.waiting.items waiter }

@@ -139,7 +139,7 @@ impl Turnstile {
         })
     }
 
-    /// Returns once the session at this place has its turn: while no other holds, behind those that waited before it.
+    /// Returns once the session at this place has its turn: while no other holds, after those that waited before it.
     pub fn await_turn<R: Wait + Clock>(&self, rt: &R, place: usize, session: u64) {
         let Some(here) = self.places.get(place) else {
             return;
@@ -183,7 +183,7 @@ impl Turnstile {
     }
 
     /// Returns once the session at this place, which has its turn, may begin a transaction: once it has a ticket, as it
-    /// has at once where fewer than 64 are taken and nobody waits. It waits behind those that came before it, for a
+    /// has at once where fewer than 64 are taken and nobody waits. It waits after those that came before it, for a
     /// second at most in which nobody holds, and then takes one too many.
     pub fn await_ticket<R: Wait + Clock>(&self, rt: &R, place: usize, session: u64) {
         let Some(here) = self.places.get(place) else {

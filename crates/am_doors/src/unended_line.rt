@@ -47,7 +47,7 @@ impl UnendedLine {
         is_of_http(self.bytes.as_slice())
     }
 
-    /// The line ends behind these bytes, and a next one begins. Whether it is one of HTTP.
+    /// The line ends after these bytes, and a next one begins. Whether it is one of HTTP.
     pub(crate) fn end(&mut self, bytes: &[u8]) -> bool
         ensures http { result ≡ is_of_http (self.old.bytes.items ++ bytes.now) }
         ensures next { self.new.bytes.items ≡ [] }

@@ -61,7 +61,7 @@ impl WaitingRoom {
         Some(first.stream)
     }
 
-    /// One more connection waits, behind the others. Where it is one too many the one that has waited longest goes.
+    /// One more connection waits, after the others. Where it is one too many the one that has waited longest goes.
     /// Takes no memory.
     pub(crate) fn enter(&mut self, stream: TcpStream) -> Option<TcpStream>
         ensures gone { result ≡ gone_of self.old.line.items }

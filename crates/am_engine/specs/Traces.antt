@@ -52,7 +52,7 @@ pub record HandsOn (e : EngineState) (piece : CallLog) (e' : EngineState) : Type
   pub handed_trace : e'.handed.trace ≡ e.handed.trace ++ piece.trace
   pub handed_calls : e'.handed.calls ≡ e.handed.calls ++ piece.calls
 
--- the piece stands in the log behind what was handed out before, which are so many
+-- the piece stands in the log after what was handed out before, which are so many
 pub record IsNextOf (e : EngineState) (from : ℕ) (piece : CallLog) : Type 0 where
   pub first : from ≡ length e.handed.trace
   pub trace : (later : List (Step × Reply)) × (e.trace ≡ (e.handed.trace ++ piece.trace) ++ later)

@@ -41,7 +41,7 @@ pub struct Piece {
     pub first: u64,
     pub trace: Vec<(Step, Reply)>,
     pub calls: Vec<CallId>,
-    /// How large the store is behind them.
+    /// How large the store is after them.
     pub figures: Figures,
 }
 
@@ -314,7 +314,7 @@ fn is_kept(has_room: bool, reply: &Reply) -> bool
     }
 }
 
-// Room for the pairs of so many ends, and behind a piece that had some for as many as may come until the next piece:
+// Room for the pairs of so many ends, and after a piece that had some for as many as may come until the next piece:
 // so a busy engine's lists are got and let go by whoever takes the pieces, and seldom grow under a latch.
 fn rooms_for(alloc: Global, ends: usize, handed: usize) -> Option<(Vec<(Step, Reply)>, Vec<CallId>)>
     ensures room { IfSome result (λ r. (ends ≤ vec_capacity r.0) × (ends ≤ vec_capacity r.1)) }

@@ -18,7 +18,7 @@ pub enum Fault {
     Flag,
     /// A digest is told of no answers.
     NothingTold,
-    /// Bytes stand behind the last block.
+    /// Bytes stand after the last block.
     Trailing,
 }
 

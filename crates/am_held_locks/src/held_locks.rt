@@ -2,6 +2,7 @@
 
 ghost use Rattle.std.specs.Prelude.{◌≡◌, ◌≢◌, ◌<◌, ◌≤◌, ◌∷◌, ◌++◌, [], List, length, map, true, false, IfOk, OnOk};
 ghost use Rattle.std.specs.Prelude.{OnErr, vec_capacity, option_to_list};
+ghost use Rattle.am_record.specs.Limits.{max_active, max_locks};
 ghost use Rattle.am_record.specs.Asks.{lock_of, with_asked};
 ghost use Rattle.am_record.specs.Plain.{is_orderly};
 ghost use Rattle.am_locks.specs.Table.{is_owner, entered, with_locks, without_owner};
@@ -46,6 +47,7 @@ impl Model for HeldLocks {
     ghost use Rattle.std.specs.Coded.{coded_list};
     ghost use Rattle.am_locks.specs.OwnerLocks.{OwnerLocks, held_code};
     ghost use Rattle.am_held_locks.specs.OnlyOwnerLocks.{only_owner, listed_locks};
+    ghost use Rattle.am_record.specs.Limits.{max_locks};
 
     ghost Value = { List OwnerLocks };
 
@@ -53,8 +55,8 @@ impl Model for HeldLocks {
 
     ghost view = { λ l. cond l.is_listed (only_owner l.number (listed_locks l.listed.items) ∷ []) l.table };
 
-    ghost invariant = { λ l. (l.is_listed ≡ true → l.table ≡ []) × (length l.listed.items ≤ 256)
-        × (256 ≤ vec_capacity l.listed) };
+    ghost invariant = { λ l. (l.is_listed ≡ true → l.table ≡ []) × (length l.listed.items ≤ max_locks)
+        × (max_locks ≤ vec_capacity l.listed) };
 }
 
 impl HeldLocks {
@@ -78,7 +80,7 @@ impl HeldLocks {
     /// # Errors
     /// NoMemory, where memory was refused for the locks of a listed owner.
     pub fn enter(&mut self, tx: u64) -> Result<(), NoMemory>
-        requires room { length self.old < 64 }
+        requires room { length self.old < max_active }
         requires new { is_owner self.old tx ≡ false }
         ensures { OnOk result (self.new ≡ entered self.old tx) }
     {
@@ -153,12 +155,12 @@ impl HeldLocks {
 
 // Lists what the operation asks for, where there is room for one more.
 fn list(listed: &mut Vec<Listed>, op: &Op) -> bool
-    requires room { 256 ≤ vec_capacity listed.old }
+    requires room { max_locks ≤ vec_capacity listed.old }
     requires orderly { is_orderly op.now ≡ true }
     ensures listed { result ≡ true → listed_locks listed.new.items ≡
         listed_locks listed.old.items ++ option_to_list (lock_of op.now) }
-    ensures few { result ≡ true → length listed.old.items < 256 }
-    ensures most { length listed.old.items ≤ 256 → length listed.new.items ≤ 256 }
+    ensures few { result ≡ true → length listed.old.items < max_locks }
+    ensures most { length listed.old.items ≤ max_locks → length listed.new.items ≤ max_locks }
     ensures full { result ≡ false → listed.new.items ≡ listed.old.items }
     ensures capacity { vec_capacity listed.new ≡ vec_capacity listed.old }
 {
@@ -182,7 +184,7 @@ fn list(listed: &mut Vec<Listed>, op: &Op) -> bool
 // Enters a listed owner with the locks that it asked for.
 fn enter_all(table: &mut LockTable, number: u64, listed: &[Listed]) -> Result<(), NoMemory>
     requires empty { table.old ≡ [] }
-    requires few { length listed.now ≤ 256 }
+    requires few { length listed.now ≤ max_locks }
     ensures ok { OnOk result (table.new ≡ only_owner number (listed_locks listed.now) ∷ []) }
     ensures err { OnErr result (table.new ≡ []) }
 {

@@ -50,7 +50,7 @@ pub inserted_further : (xs : List Entry) (x : Entry) (es : List Entry) →
 inserted_further [] x es = refl
 inserted_further (y ∷ xs) x es = inserted_further xs x (insert_entry es y)
 
--- behind the first of entries that rise the others are as free as before
+-- after the first of entries that rise the others are as free as before
 pub still_free : (x : Entry) (xs es : List Entry) →
     AllByRecursion (λ y. place_cmp (place_of x) (place_of y) ≡ Less) xs → AllFree es xs → AllFree (insert_entry es x) xs
 still_free x [] es above free = tt

@@ -37,7 +37,7 @@ module _ (part : ℕ) (key : OrderedKey) where
   remove_one [] = refl
   remove_one (e ∷ es) = ap (λ l. cond (is_here e) es (e ∷ l)) (remove_one es)
 
-  -- behind what is below the place
+  -- after what is below the place
   pub remove_from-back : (xs ys : List Entry) (n : ℕ) → AllBelow p xs → remove_from (xs ++ ys) part key n ≡ xs ++
       remove_from ys part key n
   remove_from-back [] ys n below = refl

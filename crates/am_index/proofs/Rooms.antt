@@ -11,7 +11,7 @@ use Rattle.am_record.specs.declared.entry.Entry.{Entry}
 use Rattle.am_index.specs.Entries.{Slot, find}
 use Rattle.am_index.specs.Rooms.{is_among, HasRoom, HaveRoom, KeepRoom, outgrows}
 
--- the places of lists one behind another are those of both
+-- the places of lists one after another are those of both
 pub among-append : (xs ys : List Place) (part : ℕ) (key : OrderedKey) →
     is_among (xs ++ ys) part key ≡ (is_among xs part key || is_among ys part key)
 among-append xs ys part key = list_any-append (λ (p : Place). is_eq (place_cmp p (part, key))) xs ys

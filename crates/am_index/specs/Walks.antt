@@ -48,7 +48,7 @@ pub record ReadLaws (es : List Entry) : Type 0 where
   pub none : (part : ℕ) (key : OrderedKey) → after es part key ≡ None → all_after es part key ≡ []
   pub some : (part : ℕ) (key : OrderedKey) (x : Entry) → after es part key ≡ Some x →
       all_after es part key ≡ x ∷ all_after es part x.key
-  -- from any entry that was read it goes on with those behind it
+  -- from any entry that was read it goes on with those after it
   pub goes_on : (part : ℕ) (key : OrderedKey) (xs : List Entry) (x : Entry) (ys : List Entry) →
       all_after es part key ≡ xs ++ x ∷ ys → all_after es part x.key ≡ ys
   -- the entries rise, and are those of the list at the places of the partition above the key

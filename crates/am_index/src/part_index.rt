@@ -3,6 +3,7 @@
 ghost use Rattle.std.specs.Prelude.{◌≡◌, ◌+◌, ◌<◌, ◌≤◌, ◌++◌, List, length, take, reverse, Some, None, IsSome, IfOk};
 ghost use Rattle.std.specs.Prelude.{OnOk, OnErr, is_some, is_none, vec_capacity, if◌then◌else◌};
 ghost use Rattle.std.specs.List.{AllByRecursion};
+ghost use Rattle.am_record.specs.Limits.{max_value_bytes};
 ghost use Rattle.am_record.specs.declared.entry.Entry.{Entry};
 ghost use Rattle.am_index.specs.Entries.{find, next_any, next_ghost, next_from, after, all_from, all_after, entry_at};
 ghost use Rattle.am_index.specs.Entries.{insert_entry, all_inserted, set_entry, remove_entry, remove_from, IsRising};
@@ -11,7 +12,8 @@ ghost use Rattle.am_index.specs.Content.{rows_in, live_value};
 ghost use Rattle.am_index.specs.Rooms.{HasRoom, HaveRoom, KeepRoom};
 ghost use Rattle.am_record.specs.EntryOrder.{Place};
 
-use crate::Batch;
+use crate::hint::PLACES_AT_ONCE;
+use crate::{Batch, Hint};
 use am_record::{Entry, Key, NoMemory, Range, Value};
 
 /// An index over partitions, seen as the list of its entries. They rise strictly by partition and
@@ -28,6 +30,15 @@ pub trait PartIndex {
         ensures found { result ≡ find (entries self.now) part key }
         ensures rising { IsRising (entries self.now) }
         ensures room { HaveRoom (entries self.now) (roomy self.now) };
+
+    /// The same where the hint is, and a better hint for what comes next of that place.
+    fn look(&self, part: u32, key: Key, hint: Hint) -> (Option<(Value, bool)>, Hint)
+        ensures found { result.0 ≡ find (entries self.now) part key }
+        ensures rising { IsRising (entries self.now) }
+        ensures room { HaveRoom (entries self.now) (roomy self.now) };
+
+    /// Hints for places, sixteen at most. They are looked for side by side, so that the memory of all comes at once.
+    fn hints(&self, places: &[(u32, Key)]) -> [Hint; PLACES_AT_ONCE];
 
     /// The first entry of the partition at or above the key.
     fn next_from(&self, part: u32, key: Key) -> Option<Entry>
@@ -55,7 +66,7 @@ pub trait PartIndex {
 
     /// Appends the live records of the partition in the range, by rising key, until there are `max`
     /// rows. The caller sees to it that there are no more than these. No memory is taken where there is room for
-    /// `max` rows.
+    /// `max` rows. The hint is for the range's first key.
     ///
     /// # Errors
     /// NoMemory, where memory was refused. Some rows may have been appended.
@@ -65,6 +76,7 @@ pub trait PartIndex {
         range: Range,
         max: u64,
         rows: &mut Vec<(Key, Value)>,
+        hint: Hint,
     ) -> Result<(), NoMemory>
         requires { length rows.old.items ≤ max }
         ensures copied { OnOk result (rows.new.items ≡ take max
@@ -75,7 +87,7 @@ pub trait PartIndex {
 
     /// Appends the live records of the partition in the range, from the highest key down, until there are `max`
     /// rows. The caller sees to it that there are no more than these. No memory is taken where there is room for
-    /// `max` rows.
+    /// `max` rows. The hint is for the range's last key.
     ///
     /// # Errors
     /// NoMemory, where memory was refused. Some rows may have been appended.
@@ -85,6 +97,7 @@ pub trait PartIndex {
         range: Range,
         max: u64,
         rows: &mut Vec<(Key, Value)>,
+        hint: Hint,
     ) -> Result<(), NoMemory>
         requires { length rows.old.items ≤ max }
         ensures copied { OnOk result (rows.new.items ≡ take max
@@ -109,7 +122,7 @@ pub trait PartIndex {
     ///
     /// # Errors
     /// NoMemory, where memory was refused; the entries are as before.
-    fn insert(&mut self, entry: Entry) -> Result<(), NoMemory>
+    fn insert(&mut self, entry: Entry, hint: Hint) -> Result<(), NoMemory>
         requires { find (entries self.old) entry.part entry.key ≡ None }
         ensures ok { OnOk result (entries self.new ≡ insert_entry (entries self.old) entry) }
         ensures err { OnErr result (entries self.new ≡ entries self.old) }
@@ -153,9 +166,9 @@ pub trait PartIndex {
     ///
     /// # Errors
     /// NoMemory, where such a value had no room there and memory was refused.
-    fn make_room(&mut self, part: u32, key: Key, bytes: usize) -> Result<(), NoMemory>
+    fn make_room(&mut self, part: u32, key: Key, bytes: usize, hint: Hint) -> Result<(), NoMemory>
         requires present { IsSome (find (entries self.old) part key) }
-        requires most { bytes ≤ 64 }
+        requires most { bytes ≤ max_value_bytes }
         ensures ok { OnOk result (HasRoom (roomy self.new) part key bytes) }
         ensures full { OnErr result (¬ HasRoom (roomy self.old) part key bytes) }
         ensures same { entries self.new ≡ entries self.old }
@@ -163,7 +176,7 @@ pub trait PartIndex {
 
     /// Writes over the value and the ghost bit of an entry. Whether it was live before. The caller sees to it that it
     /// is there, and that the value has room there.
-    fn set(&mut self, part: u32, key: Key, value: Value, is_ghost: bool) -> bool
+    fn set(&mut self, part: u32, key: Key, value: Value, is_ghost: bool, hint: Hint) -> bool
         requires present { IsSome (find (entries self.old) part key) }
         requires room { HasRoom (roomy self.old) part key (length value) }
         ensures was_live { result ≡ is_some (live_value (find (entries self.old) part key)) }

@@ -30,7 +30,7 @@ module _ {T : Type 0} (took : T → Trace → T → Type 0) where
         counted_both m (length f.piece) (length h.piece) ∙ ap (add_count m) (sym (length-append f.piece h.piece));
   }
 
-  -- what was taken in a further round, behind which nothing of it changed
+  -- what was taken in a further round, after which nothing of it changed
   pub taken_next : ((a b c : T) (x y : Trace) → took a x b → took b y c → took a (x ++ y) c) → (r s t t' : Trace)
       (a b c c' : T) (m n o o' : ℕ) → HasTaken took r a m s b n → HasTaken took s b n t c o →
       (t' ≡ t) × (c' ≡ c) × (o' ≡ o) → HasTaken took r a m t' c' o'

@@ -6,7 +6,7 @@ use Rattle.am_doors.specs.declared.tally.SessionCounts.{SessionCounts}
 use Rattle.am_trace_writer.specs.Events.{AreTraceCountsOf}
 use Rattle.am_keeper.specs.declared.counts.Counts.{Counts}
 
--- Behind the events that were taken, of which so many came last, this is told of them, and how large the store is to
+-- After the events that were taken, of which so many came last, this is told of them, and how large the store is to
 -- which they lead. What its sessions are is told as it is given.
 pub record AreCountsBehind (taken : Trace) (sessions : SessionCounts) (kept : ℕ) (is_cut : Bool) (c : Counts) :
     Type 0 where
@@ -15,7 +15,7 @@ pub record AreCountsBehind (taken : Trace) (sessions : SessionCounts) (kept : �
   pub of_index : ∥ AreFiguresAt taken c.index ∥₁
   pub loss : c.is_cut ≡ is_cut
 
--- The watcher looked once, behind the events that were taken then: what it was told is what `AreCountsBehind` has of
+-- The watcher looked once, after the events that were taken then: what it was told is what `AreCountsBehind` has of
 -- all that were taken, of which those came last that weren't taken before.
 pub record Looked {V : Type 0} (saw : V → Counts → Bool → V → Type 0) (old : V) (before after : Trace) (is_cut : Bool)
     (is_last : Bool) (new : V) : Type 0 where

@@ -53,7 +53,7 @@ pub struct Keeper<L: LatchName, T: PieceTaker + Drop, V: Watcher + Drop> {
     counts: EventCounts,
     ghost numbered: { events ≡ add_count 0 (length taker) },
     ghost counted: { AreCountsOf taker counts },
-    // How large the store was behind them.
+    // How large the store was after them.
     index: Figures,
     ghost sized: { ∥ AreFiguresAt taker index ∥₁ },
     watcher: V,

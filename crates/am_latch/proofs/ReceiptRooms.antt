@@ -23,7 +23,7 @@ any_kept : (o : Option ℕ) → receipts_kept o + 1 ≤ 2
 any_kept None = omega arith
 any_kept (Some t) = omega arith
 
--- a stored receipt and what is kept behind it need no more than the call asked for
+-- a stored receipt and what is kept after it need no more than the call asked for
 pub kept_after : (o : Option ℕ) (st : Step) (r : Reply) → IsAllowed o st → EndsTx st r →
     receipts_kept (open_after o (change st r)) + 1 ≤ receipts_needed o st
 kept_after o Begin r may ended = any_kept (open_after o (change Begin r))

@@ -37,7 +37,7 @@ held_by s = length s.receipts - s.let_go
 abbrev pub positions_of : List Receipt → List ℕ
 positions_of rs = map (λ (r : Receipt). r.position) rs
 
--- these are the last of all, behind so many
+-- these are the last of all, after so many
 abbrev pub AreBehind : ℕ → List ℕ → List ℕ → Type 0
 AreBehind n all xs = (gone : List ℕ) × (length gone ≡ n) × (all ≡ gone ++ xs)
 

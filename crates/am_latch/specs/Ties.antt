@@ -43,7 +43,7 @@ abbrev pub calls_of : ℕ → List CallId → ℕ
 calls_of k [] = 0
 calls_of k (m ∷ ms) = (if m.seat == k then 1 else 0) + calls_of k ms
 
--- behind the calls before, each of these has as its number how many of its seat are before it: a seat's are 0, 1, 2, ..
+-- after the calls before, each of these has as its number how many of its seat are before it: a seat's are 0, 1, 2, ..
 abbrev pub AreNumbered : List CallId → List CallId → Type 0
 AreNumbered before [] = Unit {0}
 AreNumbered before (m ∷ ms) = (m.call ≡ calls_of m.seat before) × AreNumbered (before ++ m ∷ []) ms

@@ -1,7 +1,7 @@
 -- What the walks of a block's functions share, at values of any type. Assumes `Logic`.
 -- block_had, block_made        what a block owns is taken apart, and made:  [its values; the room after them; the right
 -- to give the memory back; the handle]
---     block_opens, block_closes    the same behind a `&mut`
+--     block_opens, block_closes    the same after a `&mut`
 --     block_seen, value_seen       what a `&` to a block reaches: its pointer and its values;  and one of these
 -- one_space, space_one, first_space, wider_space, space_cut     room for one value, and room that is cut and made wider
 --     cut, glue, alone, single     values side by side are two runs;  and one value is a run

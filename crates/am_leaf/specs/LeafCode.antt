@@ -5,6 +5,7 @@ use Rattle.std.specs.List.{AllByRecursion}
 use Rattle.am_record.specs.OrderedKey.{OrderedKey, bytes_of}
 use Rattle.am_record.specs.Plain.{Records}
 use Rattle.am_record.specs.declared.entry.Entry.{Entry}
+use Rattle.am_record.specs.Limits.{max_value_bytes}
 use Rattle.am_index.specs.EntryCode.{entries_code}
 
 -- its entries, and how many bytes a key and a value may have with no memory asked
@@ -47,5 +48,5 @@ NoneLonger n vs = AllByRecursion (λ (v : List ℕ). length v ≤ n) vs
 
 -- a value may have 16 bytes or 64, and none has more
 pub record ValuesHaveRoom (s : Seen) : Type 0 where
-  pub kind : (s.value_room ≡ 16) ⊎ (s.value_room ≡ 64)
+  pub kind : (s.value_room ≡ 16) ⊎ (s.value_room ≡ max_value_bytes)
   pub none_longer : AllByRecursion (λ e. length e.value ≤ s.value_room) s.entries

@@ -9,7 +9,7 @@ abbrev pub PlacesRise : List Place → Type 0
 PlacesRise [] = Unit {0}
 PlacesRise (p ∷ ps) = AllByRecursion (λ q. place_cmp p q ≡ Less) ps × PlacesRise ps
 
--- the places before the stretch from low to high are below the one, and those behind it above
+-- the places before the stretch from low to high are below the one, and those after it above
 pub record IsStretchFor (ps : List Place) (p : Place) (low high : ℕ) : Type 0 where
   pub ordered : low ≤ high
   pub in_range : high ≤ length ps

@@ -1,4 +1,4 @@
-//! Raw memory for 32 values, behind a pointer. Each function here that uses the pointer is proved by hand
+//! Raw memory for 32 values, after a pointer. Each function here that uses the pointer is proved by hand
 //! (`proofs/block`), and no other code sees it.
 
 ghost use Rattle.std.specs.Prelude.{◌≡◌, ◌*◌, ◌^◌, ◌<◌, ◌≤◌, List, [], take, drop, length, IfOk, slice_index_or};
@@ -75,7 +75,7 @@ impl<T: Copy> Block<T> {
         unsafe { self.at.add(at).write(value) }
     }
 
-    /// Writes a value behind the others.
+    /// Writes a value after the others.
     pub(crate) fn push(&mut self, len: usize, value: T)
         requires all { len ≡ length self.old }
         requires room { len < 32 }

@@ -1,8 +1,9 @@
 //! A leaf: at most 32 entries over raw memory.
 
 ghost use Rattle.std.specs.Prelude.{◌≡◌, ◌+◌, ◌<◌, ◌≤◌, ◌++◌, [], length, take, drop, IfOk, IfErr, OnOk, OnErr};
-ghost use Rattle.std.specs.Prelude.{slice_index_or, MatchBool};
+ghost use Rattle.std.specs.Prelude.{slice_index_or, MatchBool, true};
 ghost use Rattle.std.specs.List.{insert, remove};
+ghost use Rattle.am_record.specs.Limits.{max_value_bytes, max_key_bytes};
 ghost use Rattle.am_record.specs.EntryOrder.{place_cmp, place_of};
 ghost use Rattle.am_record.specs.declared.entry.Entry.{Entry};
 ghost use Rattle.am_index.specs.Entries.{first_such, IsRising};
@@ -53,8 +54,8 @@ impl RawLeaf {
     /// # Errors
     /// NoMemory, where memory was refused.
     pub fn new(alloc: Global, key_len: usize, value_len: usize) -> Result<RawLeaf, NoMemory>
-        requires key { key_len ≤ 32 }
-        requires value { value_len ≤ 64 }
+        requires key { key_len ≤ max_key_bytes }
+        requires value { value_len ≤ max_value_bytes }
         ensures empty { IfOk result (λ leaf. leaf.entries ≡ []) }
         ensures room { IfOk result (λ leaf. Fits leaf key_len value_len) }
     {
@@ -84,8 +85,8 @@ impl RawLeaf {
     /// # Errors
     /// NoMemory, where memory was refused. There may be more room for keys then; the entries are as before.
     pub fn widen(&mut self, alloc: Global, key_len: usize, value_len: usize) -> Result<(), NoMemory>
-        requires key { key_len ≤ 32 }
-        requires value { value_len ≤ 64 }
+        requires key { key_len ≤ max_key_bytes }
+        requires value { value_len ≤ max_value_bytes }
         ensures widened { Widened self.new self.old }
         ensures ok { OnOk result (Fits self.new key_len value_len) }
         ensures full { OnErr result (¬ Fits self.old key_len value_len) }
@@ -183,6 +184,58 @@ impl RawLeaf {
         Err(low)
     }
 
+    /// The same, where the index may be that one: it is looked at before.
+    pub fn find_near(&self, near: usize, part: u32, key: Key) -> Result<usize, usize>
+        ensures found { IfOk result (IsPlaceOf self.now.entries part key) }
+        ensures absent { IfErr result (IsGapFor self.now.entries part key) }
+        ensures rising { IsRising self.now.entries }
+    {
+        // Asked here, the entries are known to rise.
+        prove!(self.len() <= 32);
+        if self.stands_at(near, part, key) {
+            return Ok(near);
+        }
+        if self.is_gap(near, part, key) {
+            return Err(near);
+        }
+        self.find(part, key)
+    }
+
+    /// An index at which the entry of a partition and of a key with that front may stand, or would go. It may be wrong:
+    /// a few places are looked at, and no key as a whole.
+    pub fn guess(&self, part: u32, front: u64) -> usize {
+        self.places.guess(self.len, part, front)
+    }
+
+    // Whether the entry of the place stands at the index.
+    fn stands_at(&self, at: usize, part: u32, key: Key) -> bool
+        ensures { result ≡ true → IsPlaceOf self.now.entries part key at }
+    {
+        if at >= self.len() {
+            return false;
+        }
+        let Ordering::Equal = self.cmp_at(at, part, key) else {
+            return false;
+        };
+        true
+    }
+
+    // Whether the entries below the index, of which there are some, are below the place, and the others above it.
+    fn is_gap(&self, at: usize, part: u32, key: Key) -> bool
+        ensures { result ≡ true → IsGapFor self.now.entries part key at }
+    {
+        if at == 0 || at >= self.len() {
+            return false;
+        }
+        let Ordering::Less = self.cmp_at(at - 1, part, key) else {
+            return false;
+        };
+        let Ordering::Greater = self.cmp_at(at, part, key) else {
+            return false;
+        };
+        true
+    }
+
     /// Inserts an entry at the index; those from there on move up by one. The caller sees to it
     /// that there is room, and that the entry's place goes there.
     #[tactic(auto, using(crate::proofs::Leaves::counted, crate::proofs::Leaves::room_in_ghosts))]
@@ -199,7 +252,7 @@ impl RawLeaf {
         self.len += 1;
     }
 
-    /// Puts records of one partition, all live, behind the entries. The caller sees to it that they rise and that there
+    /// Puts records of one partition, all live, after the entries. The caller sees to it that they rise and that there
     /// is room for so many.
     ///
     /// # Errors
@@ -223,7 +276,7 @@ impl RawLeaf {
         Ok(())
     }
 
-    // Puts records behind the entries that all have room.
+    // Puts records after the entries that all have room.
     fn extend(&mut self, part: u32, pairs: &[(Key, Value)], key_len: usize, value_len: usize)
         requires room { length self.old.entries + length pairs.now ≤ 32 }
         requires rising { IsRising (self.old.entries ++ run_entries part pairs.now) }

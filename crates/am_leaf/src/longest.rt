@@ -1,5 +1,6 @@
 //! The longest keys and values of a run.
 
+ghost use Rattle.am_record.specs.Limits.{max_value_bytes, max_key_bytes};
 ghost use Rattle.std.specs.Prelude.{◌≤◌};
 ghost use Rattle.am_leaf.specs.LeafCode.{KeysFit, ValuesFit};
 
@@ -9,8 +10,8 @@ use am_record::{Key, Value};
 pub(crate) fn longest(pairs: &[(Key, Value)]) -> (usize, usize)
     ensures keys { KeysFit pairs.now result.0 }
     ensures values { ValuesFit pairs.now result.1 }
-    ensures key { result.0 ≤ 32 }
-    ensures value { result.1 ≤ 64 }
+    ensures key { result.0 ≤ max_key_bytes }
+    ensures value { result.1 ≤ max_value_bytes }
 {
     let mut key_len = 0;
     let mut value_len = 0;

@@ -3,6 +3,7 @@
 ghost use Rattle.std.specs.Prelude.{◌≡◌, ◌<◌, ◌≤◌, [], length, take, drop, IfOk, OnOk, OnErr, slice_index_or};
 ghost use Rattle.std.specs.Prelude.{◌+◌, ◌∷◌, ◌++◌};
 ghost use Rattle.std.specs.List.{insert, remove};
+ghost use Rattle.am_record.specs.Limits.{max_key_bytes};
 ghost use Rattle.am_record.specs.EntryOrder.{Place};
 ghost use Rattle.am_record.specs.OrderedKey.{bytes_of};
 ghost use Rattle.am_leaf.specs.Fronts.{front_in_part, count_lower, count_alike};
@@ -13,6 +14,9 @@ use crate::block::Block;
 use am_record::{Key, NoMemory, SHORT_LEN, ShortKey, Value};
 use std::alloc::Global;
 use std::marker::Model;
+
+/// How many places make a group, of which the last is asked first.
+const GROUP: usize = 8;
 
 /// At most 32 places, seen with how many bytes the key of each may have: 16 until room for more is got, and 32 from
 /// then on.
@@ -42,7 +46,7 @@ impl Model for Places {
 impl Places {
     /// No places, with room for keys of so many bytes.
     pub(crate) fn new(alloc: Global, most: usize) -> Result<Places, NoMemory>
-        requires { most ≤ 32 }
+        requires { most ≤ max_key_bytes }
         ensures empty { IfOk result (λ v. v.items ≡ []) }
         ensures room { IfOk result (λ v. most ≤ v.room) }
     {
@@ -120,6 +124,17 @@ impl Places {
         }
     }
 
+    /// How many places are below a partition and front, as far as the last place of each eight tells.
+    pub(crate) fn guess(&self, len: usize, part: u32, front: u64) -> usize
+        requires all { len ≡ length self.now.items }
+        requires most { len ≤ 32 }
+    {
+        match &self.kind {
+            Kind::Short(places) => guess_short(places, len, part, front),
+            Kind::Wide(places) => guess_wide(places, len, part, front),
+        }
+    }
+
     /// How many of the keys from `at` on have just that front, up to the first that hasn't.
     pub(crate) fn count_alike(&self, at: usize, len: usize, front: u64) -> usize
         requires all { len ≡ length self.now.items }
@@ -132,7 +147,7 @@ impl Places {
         }
     }
 
-    /// Writes a place behind the others.
+    /// Writes a place after the others.
     pub(crate) fn push(&mut self, len: usize, place: (u32, Key))
         requires all { len ≡ length self.old.items }
         requires free { len < 32 }
@@ -146,7 +161,7 @@ impl Places {
         }
     }
 
-    /// Writes the places of records behind the others.
+    /// Writes the places of records after the others.
     pub(crate) fn extend(&mut self, len: usize, part: u32, pairs: &[(Key, Value)], most: usize)
         requires all { len ≡ length self.old.items }
         requires free { len + length pairs.now ≤ 32 }
@@ -224,7 +239,7 @@ impl Places {
         requires all { len ≡ length self.old.items }
         requires most { len ≤ 32 }
         ensures items { self.new.items ≡ self.old.items }
-        ensures ok { OnOk result (self.new.room ≡ 32) }
+        ensures ok { OnOk result (self.new.room ≡ max_key_bytes) }
         ensures err { OnErr result (self.new.room ≡ self.old.room) }
     {
         if let Kind::Short(places) = &self.kind {
@@ -271,7 +286,7 @@ fn widened(
     Ok(wide)
 }
 
-// Writes the places of records, all short, behind the others.
+// Writes the places of records, all short, after the others.
 fn extend_short(
     places: &mut Block<(u32, ShortKey)>,
     len: usize,
@@ -290,7 +305,7 @@ fn extend_short(
     }
 }
 
-// Writes the places of records behind the others.
+// Writes the places of records after the others.
 fn extend_wide(places: &mut Block<(u32, Key)>, len: usize, part: u32, pairs: &[(Key, Value)])
     requires all { len ≡ length places.old }
     requires free { len + length pairs.now ≤ 32 }
@@ -352,4 +367,55 @@ fn count_alike_wide(places: &Block<(u32, Key)>, from: usize, len: usize, front: 
         }
     }
     len - from
+}
+
+// How many of the short places are below a partition and front, as far as the last of each eight tells. No step depends
+// on what a comparison says.
+fn guess_short(places: &Block<(u32, ShortKey)>, len: usize, part: u32, front: u64) -> usize
+    requires all { len ≡ length places.now }
+    requires most { len ≤ 32 }
+{
+    let mut passed = 0;
+    let mut end = GROUP;
+    'group: while end <= len {
+        let last = places.get(end - 1);
+        if is_lower(last.0, last.1.front(), part, front) {
+            passed = end;
+        }
+        end += GROUP;
+    }
+    let mut lower = passed;
+    for at in passed..len.min(passed + GROUP) {
+        let place = places.get(at);
+        lower += usize::from(is_lower(place.0, place.1.front(), part, front));
+    }
+    lower
+}
+
+// How many of the wide places are below a partition and front, as far as the last of each eight tells. No step depends
+// on what a comparison says.
+fn guess_wide(places: &Block<(u32, Key)>, len: usize, part: u32, front: u64) -> usize
+    requires all { len ≡ length places.now }
+    requires most { len ≤ 32 }
+{
+    let mut passed = 0;
+    let mut end = GROUP;
+    'group: while end <= len {
+        let last = places.get(end - 1);
+        if is_lower(last.0, last.1.front(), part, front) {
+            passed = end;
+        }
+        end += GROUP;
+    }
+    let mut lower = passed;
+    for at in passed..len.min(passed + GROUP) {
+        let place = places.get(at);
+        lower += usize::from(is_lower(place.0, place.1.front(), part, front));
+    }
+    lower
+}
+
+// Whether a partition and front are below others.
+fn is_lower(part: u32, front: u64, other_part: u32, other_front: u64) -> bool {
+    (part < other_part) | (part == other_part) & (front < other_front)
 }

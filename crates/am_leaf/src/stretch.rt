@@ -6,9 +6,9 @@ ghost use Rattle.am_leaf.specs.Stretch.{PlacesRise, IsStretchFor};
 use crate::places::Places;
 use am_record::{Key, fronts_follow_keys};
 
-/// The places among which the one may be: those before are below it, and those behind above. Where all are of its
+/// The places among which the one may be: those before are below it, and those after above. Where all are of its
 /// partition, fronts tell apart all but those of its own front, of which mostly there is none. The first and the last
-/// are asked before: a load goes behind the last, and texts that begin alike have one front.
+/// are asked before: a load goes after the last, and texts that begin alike have one front.
 pub(crate) fn stretch(places: &Places, len: usize, part: u32, key: &Key) -> (usize, usize)
     requires all { len ≡ length places.now.items }
     requires rising { PlacesRise places.now.items }

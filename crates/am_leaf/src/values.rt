@@ -1,5 +1,6 @@
 //! The values of a leaf: short ones until a longer one comes.
 
+ghost use Rattle.am_record.specs.Limits.{max_value_bytes};
 ghost use Rattle.std.specs.Prelude.{◌≡◌, ◌<◌, ◌≤◌, ◌+◌, ◌∷◌, ◌++◌, [], length, take, drop, slice_index_or, slice_set};
 ghost use Rattle.std.specs.Prelude.{◌⊎◌, IfOk, OnOk, OnErr};
 ghost use Rattle.std.specs.List.{insert, remove};
@@ -36,7 +37,7 @@ impl Model for Values {
 impl Values {
     /// No values, with room for values of so many bytes.
     pub(crate) fn new(alloc: Global, most: usize) -> Result<Values, NoMemory>
-        requires { most ≤ 64 }
+        requires { most ≤ max_value_bytes }
         ensures empty { IfOk result (λ v. v.items ≡ []) }
         ensures room { IfOk result (λ v. most ≤ v.room) }
     {
@@ -62,7 +63,7 @@ impl Values {
     /// How many bytes a value may have.
     pub(crate) fn room(&self) -> usize
         ensures all { result ≡ self.now.room }
-        ensures kind { (self.now.room ≡ 16) ⊎ (self.now.room ≡ 64) }
+        ensures kind { (self.now.room ≡ 16) ⊎ (self.now.room ≡ max_value_bytes) }
     {
         match &self.kind {
             Kind::Short(_) => SHORT_LEN,
@@ -99,7 +100,7 @@ impl Values {
         }
     }
 
-    /// Writes a value behind the others.
+    /// Writes a value after the others.
     pub(crate) fn push(&mut self, len: usize, value: Value)
         requires all { len ≡ length self.old.items }
         requires free { len < 32 }
@@ -113,7 +114,7 @@ impl Values {
         }
     }
 
-    /// Writes the values of records behind the others.
+    /// Writes the values of records after the others.
     pub(crate) fn extend(&mut self, len: usize, pairs: &[(Key, Value)], most: usize)
         requires all { len ≡ length self.old.items }
         requires free { len + length pairs.now ≤ 32 }
@@ -191,7 +192,7 @@ impl Values {
         requires all { len ≡ length self.old.items }
         requires most { len ≤ 32 }
         ensures items { self.new.items ≡ self.old.items }
-        ensures ok { OnOk result (self.new.room ≡ 64) }
+        ensures ok { OnOk result (self.new.room ≡ max_value_bytes) }
         ensures err { OnErr result (self.new.room ≡ self.old.room) }
     {
         if let Kind::Short(values) = &self.kind {
@@ -226,7 +227,7 @@ fn widened(alloc: Global, values: &Block<ShortValue>, len: usize) -> Result<Bloc
     Ok(wide)
 }
 
-// Writes the values of records, all short, behind the others.
+// Writes the values of records, all short, after the others.
 fn extend_short(values: &mut Block<ShortValue>, len: usize, pairs: &[(Key, Value)], most: usize)
     requires all { len ≡ length values.old }
     requires free { len + length pairs.now ≤ 32 }
@@ -239,7 +240,7 @@ fn extend_short(values: &mut Block<ShortValue>, len: usize, pairs: &[(Key, Value
     }
 }
 
-// Writes the values of records behind the others.
+// Writes the values of records after the others.
 fn extend_wide(values: &mut Block<Value>, len: usize, pairs: &[(Key, Value)])
     requires all { len ≡ length values.old }
     requires free { len + length pairs.now ≤ 32 }

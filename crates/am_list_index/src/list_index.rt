@@ -5,7 +5,7 @@ ghost use Rattle.am_index.specs.Entries.{IsRising};
 ghost use Rattle.am_index.specs.Places.{IsPlaceOf, IsGapFor, IsLowerBound, IsUpperBound, only_of};
 ghost use Rattle.am_index.specs.Runs.{run_entries};
 
-use am_index::{Batch, PartIndex};
+use am_index::{Batch, Hint, PLACES_AT_ONCE, PartIndex};
 use am_record::{Entry, Key, NoMemory, Range, Value};
 use std::alloc::Global;
 use std::marker::Model;
@@ -116,6 +116,15 @@ impl PartIndex for ListIndex {
         }
     }
 
+    // A hint says nothing here.
+    fn look(&self, part: u32, key: Key, _hint: Hint) -> (Option<(Value, bool)>, Hint) {
+        (self.find(part, key), Hint::none())
+    }
+
+    fn hints(&self, _places: &[(u32, Key)]) -> [Hint; PLACES_AT_ONCE] {
+        [Hint::none(); PLACES_AT_ONCE]
+    }
+
     fn next_from(&self, part: u32, key: Key) -> Option<Entry> {
         self.of_part(part, self.lower_bound(part, key))
     }
@@ -140,6 +149,7 @@ impl PartIndex for ListIndex {
         range: Range,
         max: u64,
         rows: &mut Vec<(Key, Value)>,
+        _hint: Hint,
     ) -> Result<(), NoMemory> {
         let from = self.lower_bound(part, range.lo());
         let to = self.upper_bound(part, range.hi());
@@ -161,6 +171,7 @@ impl PartIndex for ListIndex {
         range: Range,
         max: u64,
         rows: &mut Vec<(Key, Value)>,
+        _hint: Hint,
     ) -> Result<(), NoMemory> {
         let from = self.lower_bound(part, range.lo());
         let to = self.upper_bound(part, range.hi());
@@ -185,7 +196,7 @@ impl PartIndex for ListIndex {
         self.items[from..].iter().copied().find(|e| e.is_ghost)
     }
 
-    fn insert(&mut self, entry: Entry) -> Result<(), NoMemory> {
+    fn insert(&mut self, entry: Entry, _hint: Hint) -> Result<(), NoMemory> {
         let Err(at) = self.search(entry.part, entry.key) else {
             unreachable!()
         };
@@ -210,11 +221,17 @@ impl PartIndex for ListIndex {
         push_run(&mut self.items, part, pairs)
     }
 
-    fn make_room(&mut self, _part: u32, _key: Key, _bytes: usize) -> Result<(), NoMemory> {
+    fn make_room(
+        &mut self,
+        _part: u32,
+        _key: Key,
+        _bytes: usize,
+        _hint: Hint,
+    ) -> Result<(), NoMemory> {
         Ok(())
     }
 
-    fn set(&mut self, part: u32, key: Key, value: Value, is_ghost: bool) -> bool {
+    fn set(&mut self, part: u32, key: Key, value: Value, is_ghost: bool, _hint: Hint) -> bool {
         let Ok(at) = self.search(part, key) else {
             unreachable!()
         };

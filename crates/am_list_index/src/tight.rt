@@ -1,5 +1,6 @@
 //! An index to which some inserts are refused.
 
+ghost use Rattle.am_record.specs.Limits.{max_value_bytes};
 ghost use Rattle.std.specs.Prelude.{◌≡◌, ◌<◌, ◌≤◌, ◌+◌, ◌-◌, ◌^◌, ◌++◌, length, take, min, Some, None, if◌then◌else◌};
 ghost use Rattle.std.specs.Prelude.{IsSome, is_some, is_none, IsErr, IfOk, OnOk, OnErr};
 ghost use Rattle.std.specs.List.{AllByRecursion, Contains};
@@ -9,7 +10,7 @@ ghost use Rattle.am_index.specs.Content.{live_value};
 ghost use Rattle.am_index.specs.Runs.{run_entries};
 ghost use Rattle.am_index.specs.Rooms.{HasRoom, KeepRoom};
 
-use am_index::{Batch, PartIndex};
+use am_index::{Batch, Hint, PLACES_AT_ONCE, PartIndex};
 use am_record::{Entry, Key, NoMemory, Range, Value};
 use std::marker::Model;
 
@@ -64,6 +65,14 @@ impl<I: PartIndex + Drop> PartIndex for Tight<I> {
         self.index.find(part, key)
     }
 
+    fn look(&self, part: u32, key: Key, hint: Hint) -> (Option<(Value, bool)>, Hint) {
+        self.index.look(part, key, hint)
+    }
+
+    fn hints(&self, places: &[(u32, Key)]) -> [Hint; PLACES_AT_ONCE] {
+        self.index.hints(places)
+    }
+
     fn next_from(&self, part: u32, key: Key) -> Option<Entry> {
         self.index.next_from(part, key)
     }
@@ -86,8 +95,9 @@ impl<I: PartIndex + Drop> PartIndex for Tight<I> {
         range: Range,
         max: u64,
         rows: &mut Vec<(Key, Value)>,
+        hint: Hint,
     ) -> Result<(), NoMemory> {
-        self.index.copy_rows(part, range, max, rows)
+        self.index.copy_rows(part, range, max, rows, hint)
     }
 
     fn copy_rows_back(
@@ -96,8 +106,9 @@ impl<I: PartIndex + Drop> PartIndex for Tight<I> {
         range: Range,
         max: u64,
         rows: &mut Vec<(Key, Value)>,
+        hint: Hint,
     ) -> Result<(), NoMemory> {
-        self.index.copy_rows_back(part, range, max, rows)
+        self.index.copy_rows_back(part, range, max, rows, hint)
     }
 
     fn next_any(&self, part: u32, key: Key) -> Option<Entry> {
@@ -108,7 +119,7 @@ impl<I: PartIndex + Drop> PartIndex for Tight<I> {
         self.index.next_ghost(part, key)
     }
 
-    fn insert(&mut self, entry: Entry) -> Result<(), NoMemory>
+    fn insert(&mut self, entry: Entry, hint: Hint) -> Result<(), NoMemory>
         requires { find self.old.entries entry.part entry.key ≡ None }
         ensures ok { OnOk result (self.new.entries ≡ insert_entry self.old.entries entry) }
         ensures err { OnErr result (self.new.entries ≡ self.old.entries) }
@@ -123,7 +134,7 @@ impl<I: PartIndex + Drop> PartIndex for Tight<I> {
             self.index.find(entry.part, entry.key);
             return Err(NoMemory);
         }
-        self.index.insert(entry)
+        self.index.insert(entry, hint)
     }
 
     fn insert_new(&mut self, entry: Entry) -> Result<bool, NoMemory>
@@ -142,7 +153,7 @@ impl<I: PartIndex + Drop> PartIndex for Tight<I> {
         if self.index.find(entry.part, entry.key).is_some() {
             return Ok(false);
         }
-        self.insert(entry)?;
+        self.insert(entry, Hint::none())?;
         Ok(true)
     }
 
@@ -178,9 +189,9 @@ impl<I: PartIndex + Drop> PartIndex for Tight<I> {
         self.index.append_run(part, pairs)
     }
 
-    fn make_room(&mut self, part: u32, key: Key, bytes: usize) -> Result<(), NoMemory>
+    fn make_room(&mut self, part: u32, key: Key, bytes: usize, hint: Hint) -> Result<(), NoMemory>
         requires present { IsSome (find self.old.entries part key) }
-        requires most { bytes ≤ 64 }
+        requires most { bytes ≤ max_value_bytes }
         ensures ok { OnOk result (HasRoom self.new.roomy part key bytes) }
         ensures full { OnErr result (¬ HasRoom self.old.roomy part key bytes) }
         ensures same { self.new.entries ≡ self.old.entries }
@@ -188,10 +199,10 @@ impl<I: PartIndex + Drop> PartIndex for Tight<I> {
         ensures no_insert { self.new.inserts ≡ self.old.inserts }
         ensures same_refused { self.new.refused ≡ self.old.refused }
     {
-        self.index.make_room(part, key, bytes)
+        self.index.make_room(part, key, bytes, hint)
     }
 
-    fn set(&mut self, part: u32, key: Key, value: Value, is_ghost: bool) -> bool
+    fn set(&mut self, part: u32, key: Key, value: Value, is_ghost: bool, hint: Hint) -> bool
         requires present { IsSome (find self.old.entries part key) }
         requires room { HasRoom self.old.roomy part key (length value) }
         ensures was_live { result ≡ is_some (live_value (find self.old.entries part key)) }
@@ -200,7 +211,7 @@ impl<I: PartIndex + Drop> PartIndex for Tight<I> {
         ensures counted { self.new.inserts ≡ self.old.inserts }
         ensures same_refused { self.new.refused ≡ self.old.refused }
     {
-        self.index.set(part, key, value, is_ghost)
+        self.index.set(part, key, value, is_ghost, hint)
     }
 
     fn remove(&mut self, part: u32, key: Key) -> Entry

@@ -65,7 +65,7 @@ module _ {X : Type 0} (test : X → Bool) where
             (ap not here)),
       )
 
-  -- a point in a front, behind which nothing passes
+  -- a point in a front, after which nothing passes
   pub point_of_front : (xs : List X) (n i : ℕ) → n ≤ length xs → i ≤ length (take n xs) →
       IsPartitionPoint (λ x. test x ≡ true) (λ x. test x ≡ false) (take n xs) i → AllWithin (λ x. test x ≡ false) xs n
       (length xs)

@@ -1,4 +1,4 @@
--- What a walk through one partition finds among what it has read and behind it.
+-- What a walk through one partition finds among what it has read and after it.
 use Rattle.std.proofs.Common.{◌≡◌, ℕ, zero, suc, ◌-◌, List, [], ◌∷◌, ◌++◌, length, take, drop, filter, Bool, true}
 use Rattle.std.proofs.Common.{false, ◌&&◌, ◌==◌, cond, Option, Some, None, refl, sym, ap, ◌∙◌, arith, ⊎_elim}
 use Rattle.std.proofs.Common.{append_assoc, length-append, length-take}
@@ -74,7 +74,7 @@ first_kept kept other test same (e ∷ es) =
       | false ↦ first_kept kept other test same es
     ]
 
--- ---- what stands behind a key
+-- ---- what stands after a key
 
 module _ (es : List Entry) (part : ℕ) (last key : OrderedKey) (less : key_cmp last key ≡ Less) where
   in_keys : (e : Entry) (b : Bool) → (e.part == part) ≡ b → (b && is_ge (place_cmp (place_of e) (part, key))) ≡
@@ -101,7 +101,7 @@ module _ (es : List Entry) (part : ℕ) (last key : OrderedKey) (less : key_cmp 
 
 -- ---- the walk
 
--- at the first entry from a key on, and nothing read behind it
+-- at the first entry from a key on, and nothing read after it
 pub begins : {es : List Entry} → IsRising es → (low : OrderedKey) (e : Entry) (walk : Walk) →
     next_from es walk.part low ≡ Some e → walk.read ≡ e ∷ [] → walk.passed ≡ 0 → walk.last ≡ e.key →
     IsWalkFrom es low walk
@@ -237,7 +237,7 @@ module _ (room : ℕ) where
       append_assoc parts.0 (e ∷ []) (drop room all)) in
       whole ∙ ap (λ l. read ++ l) (sym rest)
 
-  -- where not all the room was used, nothing stands behind what was read
+  -- where not all the room was used, nothing stands after what was read
   pub no_rest : (all read rest : List Entry) → read ≡ take room all → all ≡ read ++ rest → (length read ≡ room → ⊥) →
       rest ≡ []
   no_rest all read rest is whole short =

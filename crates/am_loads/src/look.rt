@@ -103,7 +103,7 @@ fn count_below(pairs: &[(Key, Value)], key: Key) -> usize
     front.partition_point(|pair| pair.0 < key)
 }
 
-// The length of a front, behind which no pair is below the key. The key is mostly near, so the search
+// The length of a front, after which no pair is below the key. The key is mostly near, so the search
 // begins with short fronts.
 fn front_len(pairs: &[(Key, Value)], key: Key) -> usize
     requires { is_sorted key_cmp pairs.now ≡ true }

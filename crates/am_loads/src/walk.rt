@@ -105,7 +105,7 @@ impl Walk {
         false
     }
 
-    // Reads the entries behind the last one, as many as a batch has room for, and says whether there
+    // Reads the entries after the last one, as many as a batch has room for, and says whether there
     // may be more.
     fn read_on<I: PartIndex + Drop>(&mut self, parts: &Parts<I>) -> bool
         ensures read { self.new.read ≡ take 16 (all_after parts.now.entries self.old.part self.old.last) }

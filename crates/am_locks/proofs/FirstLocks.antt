@@ -24,7 +24,7 @@ module _ (test : Lock → Bool) (n : ℕ) (locks : List Lock) where
   pub none_first : list_any test (take n locks) ≡ false → list_any test locks ≡ list_any test (drop n locks)
   none_first h = in_parts ∙ ap (λ b. b || list_any test (drop n locks)) h
 
--- ---- the first n locks, and those behind them
+-- ---- the first n locks, and those after them
 
 pub first_taken : (n m : ℕ) (locks : List Lock) → m ≡ min (length locks) n → take m locks ≡ take n locks
 first_taken n m locks e = ap (λ k. take k locks) (e ∙ min_comm (length locks) n) ∙ take_min n locks

@@ -7,6 +7,7 @@ use Rattle.am_record.specs.Interval.{within}
 use Rattle.am_record.specs.Locks.{conflicts, is_exclusive}
 use Rattle.am_record.specs.declared.lock.Lock.{Lock}
 use Rattle.am_record.specs.contracts.lock.Lock as lock
+use Rattle.am_record.specs.Limits.{max_locks}
 
 -- a transaction by its number, and its locks, the oldest first
 pub record OwnerLocks : Type 0 where
@@ -33,7 +34,7 @@ is_exclusive_at key held = list_any (λ l. is_exclusive l.mode && within l.range
 
 -- the owner has no more locks than it may have
 abbrev pub HasFew : OwnerLocks → Type 0
-HasFew held = length held.locks ≤ 256
+HasFew held = length held.locks ≤ max_locks
 
 -- no lock of the first list conflicts with one of the second
 abbrev pub NoConflicts : List Lock → List Lock → Type 0

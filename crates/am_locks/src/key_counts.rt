@@ -12,7 +12,7 @@ use std::alloc::Global;
 /// Locks that have one key alone are counted by the number of that key, in so many buckets.
 const BUCKETS: usize = 32768;
 
-/// All other locks are counted in one bucket behind these.
+/// All other locks are counted in one bucket after these.
 pub(crate) const WIDE: usize = BUCKETS;
 
 /// How many locks there are, and how many exclusive ones among them. 64 owners have 2^14 locks at most.

@@ -3,6 +3,7 @@
 ghost use Rattle.std.specs.Prelude.{◌≡◌, ◌≢◌, ◌<◌, ◌≤◌, ◌↔◌, ◌&&◌, ℕ, ◌++◌, ◌∷◌, [], length, take, drop};
 ghost use Rattle.std.specs.Prelude.{IsOk, OnOk, vec_capacity};
 ghost use Rattle.std.specs.List.{list_any, count_by};
+ghost use Rattle.am_record.specs.Limits.{max_locks};
 ghost use Rattle.am_record.specs.Interval.{within};
 ghost use Rattle.am_record.specs.Locks.{conflicts, is_covered, is_exclusive};
 ghost use Rattle.am_locks.specs.OwnerLocks.{has_conflict, blocks, is_exclusive_at};
@@ -45,6 +46,7 @@ impl Model for Owner {
     ghost use Rattle.am_locks.specs.OwnerLocks.{OwnerLocks, held_code};
     ghost use Rattle.am_locks.specs.Fronts.{any_exclusive, AreFrontsOf};
     ghost use Rattle.am_locks.specs.KeyFilter.{IsFilterOf};
+    ghost use Rattle.am_record.specs.Limits.{max_locks};
 
     ghost Value = { OwnerLocks };
 
@@ -52,7 +54,7 @@ impl Model for Owner {
 
     ghost view = { λ o. record { owner = o.number; locks = o.locks.items } };
 
-    ghost invariant = { λ o. (8 ≤ o.locks.capacity) × (length o.locks.items ≤ 256)
+    ghost invariant = { λ o. (8 ≤ o.locks.capacity) × (length o.locks.items ≤ max_locks)
         × (o.has_exclusive ≡ any_exclusive o.locks.items)
         × IsFilterOf o.locks.items o.key_filter
         × AreFrontsOf (drop 64 o.locks.items) o.later.all.ranges.items o.later.exclusive.ranges.items
@@ -81,7 +83,7 @@ impl Owner {
 
     pub(crate) fn held(&self) -> usize
         ensures count { result ≡ length self.now.locks }
-        ensures few { result ≤ 256 }
+        ensures few { result ≤ max_locks }
     {
         self.locks.len()
     }
@@ -150,10 +152,10 @@ impl Owner {
         ensures owner { self.new.owner ≡ self.old.owner }
         ensures granted { result ≡ Asked.Granted → self.new.locks ≡ self.old.locks ++ asked ∷ [] }
         ensures refused { result ≢ Asked.Granted → self.new ≡ self.old }
-        ensures too_many_locks { (result ≡ Asked.TooManyLocks) ↔ (length self.old.locks ≡ 256) }
+        ensures too_many_locks { (result ≡ Asked.TooManyLocks) ↔ (length self.old.locks ≡ max_locks) }
         ensures no_memory { result ≡ Asked.NoMemory → 8 ≤ length self.old.locks }
         ensures busy { (h : ℕ) → result ≢ Asked.Busy h }
-        ensures few { length self.new.locks ≤ 256 }
+        ensures few { length self.new.locks ≤ max_locks }
     {
         if self.locks.len() == MAX_LOCKS {
             return Asked::TooManyLocks;
@@ -207,7 +209,7 @@ fn make_room(locks: &mut SmallVec<Lock, INLINE_LOCKS>, later: &mut Fronts) -> Re
     later.reserve(count + 1)
 }
 
-// Adds to the later ones the lock that comes behind these, if it is one.
+// Adds to the later ones the lock that comes after these, if it is one.
 fn add_later(later: &mut Fronts, locks: &[Lock], asked: &Lock)
     requires fronts { AreFrontsOf (drop 64 locks.now) later.old.all.ranges.items later.old.exclusive.ranges.items }
     requires room { 64 ≤ length locks.now → (length (drop 64 locks.now) < vec_capacity later.old.all.ranges)

@@ -4,6 +4,7 @@ ghost use Rattle.std.specs.Prelude.{◌≡◌, ◌≢◌, ◌<◌, ◌≤◌, �
 ghost use Rattle.std.specs.Prelude.{◌==◌, slice_set, List, MatchOption, IfOk};
 ghost use Rattle.std.specs.List.{position};
 ghost use Rattle.std.specs.Option.{option_to_list};
+ghost use Rattle.am_record.specs.Limits.{max_active, max_locks};
 ghost use Rattle.am_record.specs.Locks.{is_covered, with_lock};
 ghost use Rattle.am_locks.specs.OwnerLocks.{OwnerLocks, blocks};
 ghost use Rattle.am_locks.specs.KeyCounts.{bucket_of, key_bucket};
@@ -57,6 +58,7 @@ impl Model for LockTable {
     ghost use Rattle.am_locks.specs.OwnerLocks.{OwnerLocks, held_code, HasFew};
     ghost use Rattle.am_locks.specs.Table.{owner_numbers, AreAllApart};
     ghost use Rattle.am_locks.specs.KeyCounts.{AreCountsOf, all_locks};
+    ghost use Rattle.am_record.specs.Limits.{max_active};
 
     ghost Value = { List OwnerLocks };
 
@@ -64,11 +66,11 @@ impl Model for LockTable {
 
     ghost view = { λ t. t.owners.items };
 
-    ghost invariant = { λ t. AreAllApart t.owners.items × (length t.owners.items ≤ 64)
-        × (64 ≤ vec_capacity t.owners)
+    ghost invariant = { λ t. AreAllApart t.owners.items × (length t.owners.items ≤ max_active)
+        × (max_active ≤ vec_capacity t.owners)
         × All HasFew t.owners.items
         × AreCountsOf (all_locks t.owners.items) t.counts.buckets.items
-        × (64 ≤ vec_capacity t.numbers)
+        × (max_active ≤ vec_capacity t.numbers)
         × (t.numbers.items ≡ owner_numbers t.owners.items) };
 }
 
@@ -91,7 +93,7 @@ impl LockTable {
     /// How many owners there are.
     pub fn owners(&self) -> usize
         ensures count { result ≡ length self.now }
-        ensures few { result ≤ 64 }
+        ensures few { result ≤ max_active }
     {
         self.owners.len()
     }
@@ -127,7 +129,7 @@ impl LockTable {
 
     /// Makes the transaction an owner, the last one, which holds nothing yet. It takes no memory.
     pub fn enter(&mut self, tx: u64)
-        requires room { length self.old < 64 }
+        requires room { length self.old < max_active }
         requires new { is_owner self.old tx ≡ false }
         ensures { self.new ≡ entered self.old tx }
     {
@@ -149,7 +151,7 @@ impl LockTable {
         ensures too_many_locks { (result ≡ Asked.TooManyLocks)
             ↔ ((blockers self.old tx asked ≡ [])
             × (is_covered (locks_owned self.old tx) asked ≡ false)
-            × (length (locks_owned self.old tx) ≡ 256)) }
+            × (length (locks_owned self.old tx) ≡ max_locks)) }
         ensures no_memory { result ≡ Asked.NoMemory
             → (is_covered (locks_owned self.old tx) asked ≡ false)
             × (8 ≤ length (locks_owned self.old tx)) }
@@ -189,7 +191,7 @@ impl LockTable {
     pub fn held(&self, tx: u64) -> usize
         requires { is_owner self.now tx ≡ true }
         ensures count { result ≡ length (locks_owned self.now tx) }
-        ensures few { result ≤ 256 }
+        ensures few { result ≤ max_locks }
     {
         self.owners[self.slot_of(tx)].held()
     }

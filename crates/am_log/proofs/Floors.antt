@@ -21,7 +21,7 @@ revisions_rise [] b = omega arith
 revisions_rise (change ∷ read) b = let rest : revision_of b ≤ revision_of (read ++ b) = revisions_rise read b in
     omega arith
 
--- a piece came behind the floor, at this revision or before it
+-- a piece came after the floor, at this revision or before it
 abbrev pub Came : ℕ → ℕ → Piece → Type 0
 Came floor revision p = (floor < p.revision) × (p.revision ≤ revision)
 
@@ -46,7 +46,7 @@ either_came : (low high : ℕ) (test : Bool) (xs ys : List Piece) → AllByRecur
 either_came low high true xs ys p q = p
 either_came low high false xs ys p q = q
 
--- the pieces whose heads haven't come came behind the floor
+-- the pieces whose heads haven't come came after the floor
 pub pieces_came : (h : History) → AllByRecursion (Came (floor h) (revision_of h)) (pieces_of h)
 pieces_came [] = tt
 pieces_came (Puts g name part text ∷ b) =
@@ -73,7 +73,7 @@ same_generation (Moves f ∷ read) b low =
     absurd (omega arith)
 same_generation (change ∷ read) b low = same_generation read b low
 
--- ---- the revision that a reader begins behind
+-- ---- the revision that a reader begins after
 
 pub first_is_low : (low revision : ℕ) (pieces : List Piece) (high : ℕ) → low ≤ revision →
     AllByRecursion (Came low high) pieces

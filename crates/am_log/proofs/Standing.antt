@@ -1,4 +1,4 @@
--- Where a reader stands behind one change more.
+-- Where a reader stands after one change more.
 use Rattle.std.proofs.Common.{◌≡◌, ℕ, ◌+◌, ◌<◌, ◌≤◌, List, [], ◌∷◌, ◌++◌, Bool, true, false, not, cond, arith, sym, ap}
 use Rattle.std.proofs.Common.{◌∙◌, ◌==◌, Some, None}
 use Rattle.std.specs.Prelude.{ltb}

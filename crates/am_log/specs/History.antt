@@ -110,7 +110,7 @@ pieces_of (Puts g name part text ∷ before) =
 pieces_of (Moves f ∷ before) = []
 pieces_of (change ∷ before) = pieces_of before
 
--- the bytes of an entry's pieces, one behind another
+-- the bytes of an entry's pieces, one after another
 abbrev pub whole : Name → List Piece → List ℕ
 whole name [] = []
 whole name (p ∷ pieces) = cond (same p.entry name) (p.text ++ whole name pieces) (whole name pieces)
@@ -161,7 +161,7 @@ shown (Puts g name part text) before =
 shown (Moves f) before = Some (record { revision = revision_of before + 1; event = Moved f; text = [] })
 shown change before = None
 
--- Behind which revision a reader has to begin who knows all up to the given one: pieces whose heads haven't come may
+-- After which revision a reader has to begin who knows all up to the given one: pieces whose heads haven't come may
 -- have come before.
 abbrev pub first_behind : ℕ → List Piece → ℕ
 first_behind revision [] = revision

@@ -7,11 +7,11 @@ use Rattle.am_log.specs.declared.pieces.Entry.{Entry}
 use Rattle.am_log.specs.LogState.{LogState}
 use Rattle.am_log.specs.History.{Change, Puts, History, generation, floor, counts, pieces_of, ended_by}
 
--- what came behind a revision
+-- what came after a revision
 abbrev pub behind : ℕ → List Piece → List Piece
 behind from pieces = filter (λ p. ltb from p.revision) pieces
 
--- a reader that began behind the revision, and took all that it was told up to here
+-- a reader that began after the revision, and took all that it was told up to here
 pub record IsAt (from : ℕ) (log : LogState) (history : History) : Type 0 where
   pub floor : log.floor ≡ floor history
   pub generation : log.generation ≡ generation history

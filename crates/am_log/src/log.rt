@@ -136,7 +136,7 @@ impl Log {
         self.floor < revision
     }
 
-    /// Behind which revision a reader has to begin by a snapshot that has all entries up to the given one.
+    /// After which revision a reader has to begin by a snapshot that has all entries up to the given one.
     pub fn first_behind(&self, revision: u64) -> u64
         ensures { result ≡ first_behind revision self.now.pieces }
     {

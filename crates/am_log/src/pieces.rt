@@ -70,7 +70,7 @@ fn are_in_turn(entry: Name, pieces: &[Piece]) -> bool
     true
 }
 
-// The entry's pieces, one behind another, and its head, where all came in their turn.
+// The entry's pieces, one after another, and its head, where all came in their turn.
 fn joined(
     alloc: Global,
     entry: Name,
@@ -92,7 +92,7 @@ fn joined(
     Ok(Some(text))
 }
 
-/// Behind which revision a reader has to begin who knows all entries up to the given one: others may have begun before.
+/// After which revision a reader has to begin who knows all entries up to the given one: others may have begun before.
 pub(crate) fn first_behind(revision: u64, pieces: &[Piece]) -> u64
     ensures { result ≡ first_behind revision pieces.now }
 {

@@ -2,12 +2,12 @@
 
 use crate::fault::{Fault, expect, expect_unchanged};
 use crate::numbers::entries_below;
-use am_index::PartIndex;
+use am_index::{Hint, PartIndex};
 use am_list_index::ListIndex;
 use am_record::{Entry, Key, NoMemory};
 use std::alloc::Global;
 
-// The entry behind this one.
+// The entry after this one.
 fn behind<I: PartIndex>(index: &I, entry: &Entry) -> Option<Entry> {
     if let Some(next) = index.after(entry.part, entry.key) {
         return Some(next);
@@ -30,7 +30,7 @@ fn has_just<I: PartIndex>(index: &I, entries: &[Entry]) -> bool {
 // Adds an entry to those that stand.
 fn add<I: PartIndex>(index: &mut I, entry: &Entry, before: &[Entry]) -> Result<(), Fault> {
     expect(index.find(entry.part, entry.key).is_none())?;
-    match index.insert(*entry) {
+    match index.insert(*entry, Hint::none()) {
         Ok(()) => Ok(()),
         Err(NoMemory) => add_again(index, entry, before),
     }
@@ -40,7 +40,7 @@ fn add<I: PartIndex>(index: &mut I, entry: &Entry, before: &[Entry]) -> Result<(
 fn add_again<I: PartIndex>(index: &mut I, entry: &Entry, before: &[Entry]) -> Result<(), Fault> {
     expect_unchanged(has_just(index, before))?;
     expect_unchanged(index.find(entry.part, entry.key).is_none())?;
-    index.insert(*entry)?;
+    index.insert(*entry, Hint::none())?;
     Ok(())
 }
 

@@ -41,7 +41,7 @@ fn records_in_no_order(alloc: Global) -> Result<Vec<(Key, Value)>, Fault> {
     Ok(records)
 }
 
-// The entry behind this one.
+// The entry after this one.
 fn behind(parts: &Parts<ListIndex>, entry: &Entry) -> Option<Entry> {
     if let Some(next) = parts.after(entry.part, entry.key) {
         return Some(next);
@@ -95,7 +95,7 @@ fn next_run(alloc: Global, cut: &mut Cut<'_, Records>) -> Result<Run, Fault> {
     cut.next(alloc)?.ok_or(Fault::Differs)
 }
 
-// The next run is put behind those that came.
+// The next run is put after those that came.
 fn take_run(alloc: Global, cut: &mut Cut<'_, Records>, runs: &mut Vec<Run>) -> Result<(), Fault> {
     let run = next_run(alloc, cut)?;
     push_to(runs, run)?;

@@ -72,7 +72,7 @@ fn scan_some(alloc: Global, plain: &mut Plain) -> Result<(), Fault> {
     answers(plain, &scan, 20, &rows)
 }
 
-// Inserts, a scan, and deletes behind a savepoint.
+// Inserts, a scan, and deletes after a savepoint.
 fn insert_and_go_back(alloc: Global, plain: &mut Plain) -> Result<(), Fault> {
     insert_all(plain)?;
     scan_some(alloc, plain)?;
@@ -83,7 +83,7 @@ fn insert_and_go_back(alloc: Global, plain: &mut Plain) -> Result<(), Fault> {
     expect(has_below(plain, 20)?)
 }
 
-/// Inserts, a scan, and deletes behind a savepoint. After want of memory they are asked again.
+/// Inserts, a scan, and deletes after a savepoint. After want of memory they are asked again.
 pub(crate) fn plain_answers(alloc: Global) -> Result<(), Fault> {
     let mut plain = Plain::new(alloc);
     insert_and_go_back(alloc, &mut plain)

@@ -3,7 +3,7 @@
 use crate::fault::{Fault, expect};
 use crate::indexes::fill;
 use crate::numbers::{entries_below, live, pairs_of, range};
-use am_index::PartIndex;
+use am_index::{Hint, PartIndex};
 use am_list_index::ListIndex;
 use am_parts::Parts;
 use am_record::{Entry, HashKey, Key, NoMemory, Range, Value};
@@ -26,9 +26,13 @@ fn copies(
     due: &[(Key, Value)],
 ) -> Result<(), Fault> {
     let mut rows = Vec::new(alloc);
-    if index.copy_rows_back(1, range, max, &mut rows).is_err() {
+    let none = Hint::none();
+    if index
+        .copy_rows_back(1, range, max, &mut rows, none)
+        .is_err()
+    {
         rows.clear();
-        index.copy_rows_back(1, range, max, &mut rows)?;
+        index.copy_rows_back(1, range, max, &mut rows, none)?;
     }
     expect(rows.as_slice() == due)
 }
@@ -47,7 +51,7 @@ pub(crate) fn rows_back_of_a_list(alloc: Global) -> Result<(), Fault> {
 fn add(parts: &mut Parts<ListIndex>, entry: Entry) -> Result<(), Fault> {
     expect(parts.find(entry.part, entry.key).is_none())?;
     expect(entry.is_ghost || parts.place_of(entry.key).is_none())?;
-    parts.add(entry)?;
+    parts.add(entry, Hint::none())?;
     Ok(())
 }
 

@@ -204,7 +204,7 @@ pub record IsCleaned (es : List Entry) (held : Holders) (range : Interval) (cur 
   pub rises : IsRising cur
   pub passed : HasPassedNone cur held range from
 
--- how long a list is, by what is left of it behind its place n
+-- how long a list is, by what is left of it after its place n
 none_left : (n : ℕ) (xs : List Entry) → drop n xs ≡ [] → length xs ≤ n
 none_left zero [] h = omega arith
 none_left (suc n) [] h = least

@@ -41,7 +41,7 @@ module _ (test : Entry → Bool) where
   long-no : (x : Entry) (xs : List Entry) → test x ≡ false → head_long (x ∷ xs) ≡ 0
   long-no x xs h = long-cons x xs ∙ cond-false (test x) (suc (head_long xs)) 0 h
 
--- no more than n, where the list goes on outside behind these
+-- no more than n, where the list goes on outside after these
 n_at_most : (range : Interval) (n k : ℕ) (xs : List Entry) → n < k →
     go_on_outside range (drop n (take k xs)) ≡ true → head_long (λ e. within range e.key) xs ≤ n
 n_at_most range n zero xs less out = absurd (omega arith)
@@ -80,7 +80,7 @@ module _ (run : ℕ) where
             (λ f less. omega (arith, up, le_part (place_of c) (place_of f) (ap is_le less))) cs rise.0,
       )
 
-  -- of a rising list that has no entry of an earlier run and at most n of this one, those behind the first n are later
+  -- of a rising list that has no entry of an earlier run and at most n of this one, those after the first n are later
   later_behind : (n : ℕ) (cs : List Entry) → IsRising cs → AllByRecursion (λ e. run ≤ e.part) cs →
       head_long is_its cs ≤ n → AllByRecursion (λ e. run < e.part) (drop n cs)
   later_behind n [] rise least few = none n
@@ -112,7 +112,7 @@ module _ (run : ℕ) where
       )))) es
       (All-passed (λ e. run < e.part) (in_parts_from 1 range) es later)
 
--- the first n candidates are all of the run, where it goes on outside the range behind its first n entries
+-- the first n candidates are all of the run, where it goes on outside the range after its first n entries
 pub run_ends : (es : List Entry) (rise : IsRising es) (held : Holders) (range : Interval) (run : ℕ) → 1 ≤ run →
     AllByRecursion (λ e. run ≤ e.part) (candidates es range) → (n : ℕ) → n < 16 →
     go_on_outside range (drop n (take 16 (all_from es run range.lo))) ≡ true →

@@ -172,7 +172,7 @@ module _ {es : List Entry} (sound : AreWellFormed es) (range : Interval) (n m : 
         needs.1,
   )
 
--- what needs room behind the first n of them needed it before
+-- what needs room after the first n of them needed it before
 first_grows : {es : List Entry} → AreWellFormed es → (range : Interval) (n m : ℕ) → n ≤ m → (cs : List Entry) →
     drop m (candidates es range) ≡ cs →
     FirstNeedsRoom (all_worked_off (take n (candidates es range)) es) cs → FirstNeedsRoom es cs
@@ -258,7 +258,7 @@ module _ {es : List Entry} (sound : AreWellFormed es) (held : Holders) (limit : 
       is_stretch counted = read_stretch cur cur_rising held range run (subst (λ r. 1 ≤ r) at (first_run first found))
           still_none_before left batch free read counted
 
-      -- where the batch goes on outside the range behind those that went home, nothing is left up to the run
+      -- where the batch goes on outside the range after those that went home, nothing is left up to the run
       pub has_none_left : (count m : ℕ) (cur' : List Entry) → count < 16 → m ≡ n + count →
           IsOnTheWay es held limit run range cur' m → go_on_outside range (drop count batch) ≡ true →
           HasNoneBefore cur' range (run + 1)

@@ -1,5 +1,6 @@
 //! Clean steps.
 
+ghost use Rattle.am_record.specs.Limits.{max_limit};
 ghost use Rattle.std.specs.Prelude.{◌≡◌, ◌≤◌};
 ghost use Rattle.am_index.specs.Content.{content};
 ghost use Rattle.am_index.specs.Entries.{first_such};
@@ -25,7 +26,7 @@ pub fn clean_step<I: PartIndex + Drop>(
     limit: u64,
 ) -> Reply
     requires some { 1 ≤ limit }
-    requires few { limit ≤ 64 }
+    requires few { limit ≤ max_limit }
     ensures reply { CleanRight parts.old.entries (holder_of locks.now) range limit result }
     ensures entries { parts.new.entries ≡ all_worked_off
         (cleaned_by parts.old.entries (holder_of locks.now) range result) parts.old.entries }

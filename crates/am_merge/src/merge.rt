@@ -1,5 +1,6 @@
 //! Merge steps.
 
+ghost use Rattle.am_record.specs.Limits.{max_limit};
 ghost use Rattle.std.specs.Prelude.{◌≡◌, ◌≤◌, ◌+◌, true, Some, take, take_while, length};
 ghost use Rattle.am_index.specs.Content.{content};
 ghost use Rattle.am_index.specs.Entries.{first_such, all_from};
@@ -38,7 +39,7 @@ pub fn merge_step<I: PartIndex + Drop>(
     limit: u64,
 ) -> Reply
     requires some { 1 ≤ limit }
-    requires few { limit ≤ 64 }
+    requires few { limit ≤ max_limit }
     ensures reply { MergeRight parts.old.entries wishes.old (holder_of locks.now) limit result }
     ensures entries { parts.new.entries ≡ all_worked_off
         (merged_by parts.old.entries wishes.old result) parts.old.entries }
@@ -120,7 +121,7 @@ fn read_anew<I: PartIndex + Drop>(
 }
 
 // Notes the range as merged in the run and those before it, where what was read of the run and stays there shows that
-// no entry of the range is left in it. So the next step begins behind the run, and has no look at it in vain.
+// no entry of the range is left in it. So the next step begins after the run, and has no look at it in vain.
 fn note_left<I: PartIndex + Drop>(parts: &mut Parts<I>, range: Range, run: u32, left: &[Entry])
     requires { go_on_outside range left.now ≡ true → HasNoneBefore parts.old.entries range (run + 1) }
     ensures { parts.new ≡ parts.old }

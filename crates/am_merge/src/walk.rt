@@ -112,7 +112,7 @@ pub(crate) fn first_ghost<I: PartIndex + Drop>(
         if range.contains(entry.key) {
             return Some(entry);
         }
-        // Behind a ghost below the range one of the range may stand in its partition, behind one above it none does.
+        // After a ghost below the range one of the range may stand in its partition, after one above it none does.
         key = range.lo();
         part = if entry.key < key {
             entry.part

@@ -8,7 +8,7 @@ ghost use Rattle.am_record.specs.declared.step.Op.TheVariants.{DeleteRange};
 
 use crate::reads::find_live;
 use crate::writes::bury;
-use am_index::PartIndex;
+use am_index::{Hint, PLACES_AT_ONCE, PartIndex};
 use am_parts::Parts;
 use am_record::{Key, NoMemory, Range, Reply, Value};
 use am_scan::scan;
@@ -46,13 +46,17 @@ fn bury_all<I: PartIndex + Drop>(parts: &mut Parts<I>, log: &mut UndoLog, rows: 
     ensures marks { log.new.marks ≡ log.old.marks }
     ensures rooms { KeepRoom parts.old.roomy parts.new.roomy parts.new.entries }
 {
-    for row in rows {
-        bury_record(parts, log, row.0);
+    let mut hints = [Hint::none(); PLACES_AT_ONCE];
+    for (at, row) in rows.iter().enumerate() {
+        if at % PLACES_AT_ONCE == 0 {
+            hints = parts.hints(&rows[at..]);
+        }
+        bury_record(parts, log, row.0, hints[at % PLACES_AT_ONCE]);
     }
 }
 
 // Marks the live entry of a key as a ghost, where it has one.
-fn bury_record<I: PartIndex + Drop>(parts: &mut Parts<I>, log: &mut UndoLog, key: Key)
+fn bury_record<I: PartIndex + Drop>(parts: &mut Parts<I>, log: &mut UndoLog, key: Key, hint: Hint)
     requires values { HaveRoom parts.old.entries parts.old.roomy }
     requires room { 0 < log.old.room }
     ensures entries { parts.new.entries ≡ with_ghost (find_live parts.old.entries key) parts.old.entries }
@@ -62,7 +66,8 @@ fn bury_record<I: PartIndex + Drop>(parts: &mut Parts<I>, log: &mut UndoLog, key
     ensures room { log.old.room ≤ log.new.room + 1 }
     ensures rooms { KeepRoom parts.old.roomy parts.new.roomy parts.new.entries }
 {
-    if let Some(live) = find_live(parts, key) {
-        bury(parts, log, &live);
+    let (found, hint) = find_live(parts, key, hint);
+    if let Some(live) = found {
+        bury(parts, log, &live, hint);
     }
 }

@@ -1,6 +1,7 @@
 //! Load.
 
 ghost use Rattle.std.specs.Prelude.{◌≡◌, ◌<◌, true, IfOk, OnErr};
+ghost use Rattle.am_record.specs.Limits.{last_run};
 ghost use Rattle.am_record.specs.Plain.{is_rising};
 ghost use Rattle.am_index.specs.Rooms.{HaveRoom, KeepRoom};
 ghost use Rattle.am_index.specs.Runs.{NothingAbove};
@@ -22,7 +23,7 @@ pub(crate) fn load_pairs<I: PartIndex + Drop>(
     pairs: Records,
 ) -> Result<Reply, NoMemory>
     requires rising { is_rising pairs ≡ true }
-    requires room { parts.old.runs < 4294967294 }
+    requires room { parts.old.runs < last_run }
     requires above { NothingAbove parts.old.runs parts.old.entries }
     requires values { HaveRoom parts.old.entries parts.old.roomy }
     ensures done { IfOk result (λ reply. IsDone (Load pairs) reply parts.old log.old parts.new log.new) }

@@ -1,6 +1,7 @@
 //! Any operation.
 
 ghost use Rattle.std.specs.Prelude.{◌≡◌, true, false, ◌&&◌, nat_le, IfOk, OnErr};
+ghost use Rattle.am_record.specs.Limits.{last_run};
 ghost use Rattle.am_record.specs.Plain.{is_orderly};
 ghost use Rattle.am_record.specs.Marks.{since_mark};
 ghost use Rattle.am_record.specs.Refusals.{may_make_run};
@@ -34,7 +35,7 @@ pub fn carry_out<I: PartIndex + Drop>(
     op: Op,
 ) -> Result<Reply, NoMemory>
     requires orderly { is_orderly op ≡ true }
-    requires room { (may_make_run op && nat_le 4294967294 parts.old.runs) ≡ false }
+    requires room { (may_make_run op && nat_le last_run parts.old.runs) ≡ false }
     requires above { NothingAbove parts.old.runs parts.old.entries }
     requires back { CanTakeBack (since_mark log.old.marks log.old.notes) (find parts.old.entries) }
     requires noted { NotesFit parts.old.roomy log.old.notes }

@@ -1,11 +1,13 @@
-//! Put. The pairs are parted into those whose keys are live and those that are new, and each live entry is found once.
-//! Then all room is got, for notes and for values, the new ones become a run, and nothing can fail any more.
+//! Put. The pairs are parted into those whose keys are live and those that are new, and each live entry is found once,
+//! sixteen side by side. Then all room is got, for notes and for values, the new ones become a run, and nothing can
+//! fail any more.
 
 ghost use Rattle.std.specs.Prelude.{◌≡◌, ◌+◌, ◌<◌, ◌≤◌, ◌++◌, ◌∷◌, [], cond, length, nat_lt, true, IfOk, OnErr, OnOk};
 ghost use Rattle.std.specs.Prelude.{is_some};
 ghost use Rattle.std.specs.List.{AllByRecursion, cons_option};
 ghost use Rattle.std.specs.Option.{option_map};
 ghost use Rattle.std.specs.FinMap.{is_sorted};
+ghost use Rattle.am_record.specs.Limits.{last_run};
 ghost use Rattle.am_record.specs.OrderedKey.{key_cmp};
 ghost use Rattle.am_record.specs.Plain.{is_rising};
 ghost use Rattle.am_index.specs.Content.{content};
@@ -19,7 +21,7 @@ ghost use Rattle.am_record.specs.declared.step.Op.TheVariants.{Put};
 
 use crate::reads::find_live;
 use crate::writes::overwrite;
-use am_index::PartIndex;
+use am_index::{Hint, PLACES_AT_ONCE, PartIndex};
 use am_loads::load;
 use am_parts::Parts;
 use am_record::{Entry, Key, NoMemory, Records, Reply, Value};
@@ -31,19 +33,24 @@ use std::alloc::Global;
 #[derive(Drop)]
 struct Parted {
     updates: Vec<(Entry, Value)>,
+    // For the entries of the updates, one for each.
+    hints: Vec<Hint>,
     fresh: Vec<(Key, Value)>,
 }
 
 impl Parted {
-    // One pair more, by the live entry of its key.
-    fn add(&mut self, live: Option<Entry>, pair: (Key, Value)) -> Result<(), NoMemory>
+    // One pair more, by the live entry of its key and a hint for it.
+    fn add(&mut self, live: Option<Entry>, hint: Hint, pair: (Key, Value)) -> Result<(), NoMemory>
         ensures updates { OnOk result (self.new.updates.items ≡
             self.old.updates.items ++ cons_option (option_map (λ e. (e, pair.1)) live) []) }
         ensures fresh { OnOk result (self.new.fresh.items ≡
             self.old.fresh.items ++ cond (is_some live) [] (pair ∷ [])) }
     {
         match live {
-            Some(entry) => self.updates.push((entry, pair.1))?,
+            Some(entry) => {
+                self.updates.push((entry, pair.1))?;
+                self.hints.push(hint)?;
+            }
             None => self.fresh.push(pair)?,
         }
         Ok(())
@@ -59,7 +66,7 @@ pub(crate) fn put_pairs<I: PartIndex + Drop>(
     pairs: Records,
 ) -> Result<Reply, NoMemory>
     requires rising { is_rising pairs ≡ true }
-    requires room { parts.old.runs < 4294967294 }
+    requires room { parts.old.runs < last_run }
     requires above { NothingAbove parts.old.runs parts.old.entries }
     requires values { HaveRoom parts.old.entries parts.old.roomy }
     ensures done { IfOk result (λ reply. IsDone (Put pairs) reply parts.old log.old parts.new log.new) }
@@ -68,11 +75,15 @@ pub(crate) fn put_pairs<I: PartIndex + Drop>(
 {
     // Read here, the entries are known to be sound.
     let _ = parts.runs();
-    let Parted { updates, fresh } = part_pairs(alloc, parts, pairs.as_slice())?;
+    let Parted {
+        updates,
+        hints,
+        fresh,
+    } = part_pairs(alloc, parts, pairs.as_slice())?;
     log.reserve(updates.len() + 1)?;
-    get_room(parts, updates.as_slice())?;
+    get_room(parts, updates.as_slice(), hints.as_slice())?;
     load_new(parts, log, fresh)?;
-    overwrite_all(parts, log, updates.as_slice());
+    overwrite_all(parts, log, updates.as_slice(), hints.as_slice());
     Ok(Reply::Done)
 }
 
@@ -87,11 +98,16 @@ fn part_pairs<I: PartIndex + Drop>(
 {
     let mut parted = Parted {
         updates: Vec::new(alloc),
+        hints: Vec::new(alloc),
         fresh: Vec::new(alloc),
     };
-    for pair in pairs {
-        let live = find_live(parts, pair.0);
-        parted.add(live, *pair)?;
+    let mut hints = [Hint::none(); PLACES_AT_ONCE];
+    for (at, pair) in pairs.iter().enumerate() {
+        if at % PLACES_AT_ONCE == 0 {
+            hints = parts.hints(&pairs[at..]);
+        }
+        let (live, hint) = find_live(parts, pair.0, hints[at % PLACES_AT_ONCE]);
+        parted.add(live, hint, *pair)?;
     }
     Ok(parted)
 }
@@ -100,6 +116,7 @@ fn part_pairs<I: PartIndex + Drop>(
 fn get_room<I: PartIndex + Drop>(
     parts: &mut Parts<I>,
     updates: &[(Entry, Value)],
+    hints: &[Hint],
 ) -> Result<(), NoMemory>
     requires placed { AllByRecursion (IsPlaced parts.old.entries) updates.now }
     requires values { HaveRoom parts.old.entries parts.old.roomy }
@@ -108,11 +125,19 @@ fn get_room<I: PartIndex + Drop>(
     ensures runs { parts.new.runs ≡ parts.old.runs }
     ensures rooms { KeepRoom parts.old.roomy parts.new.roomy parts.new.entries }
 {
-    for update in updates {
+    for (at, update) in updates.iter().enumerate() {
         let entry = &update.0;
-        parts.make_room(entry.part, entry.key, update.1.len())?;
+        parts.make_room(entry.part, entry.key, update.1.len(), hint_at(hints, at))?;
     }
     Ok(())
+}
+
+// The hint for the entry of the update at the index.
+fn hint_at(hints: &[Hint], at: usize) -> Hint {
+    match hints.get(at) {
+        Some(hint) => *hint,
+        None => Hint::none(),
+    }
 }
 
 // Makes the records a run, where there are any. The caller has the room for a note.
@@ -123,7 +148,7 @@ fn load_new<I: PartIndex + Drop>(
 ) -> Result<(), NoMemory>
     requires sorted { is_sorted key_cmp new.items ≡ true }
     requires dead { AreAllAbsent parts.old.entries new.items }
-    requires room { parts.old.runs < 4294967294 }
+    requires room { parts.old.runs < last_run }
     requires above { NothingAbove parts.old.runs parts.old.entries }
     requires values { HaveRoom parts.old.entries parts.old.roomy }
     requires note { 0 < log.old.room }
@@ -152,6 +177,7 @@ fn overwrite_all<I: PartIndex + Drop>(
     parts: &mut Parts<I>,
     log: &mut UndoLog,
     updates: &[(Entry, Value)],
+    hints: &[Hint],
 )
     requires placed { AllByRecursion (HasPlace parts.old.entries parts.old.roomy) updates.now }
     requires values { HaveRoom parts.old.entries parts.old.roomy }
@@ -164,7 +190,7 @@ fn overwrite_all<I: PartIndex + Drop>(
 {
     // Read here, no key is known to be live in two places.
     let _ = parts.runs();
-    for update in updates {
-        overwrite(parts, log, &update.0, update.1);
+    for (at, update) in updates.iter().enumerate() {
+        overwrite(parts, log, &update.0, update.1, hint_at(hints, at));
     }
 }

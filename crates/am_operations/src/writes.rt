@@ -15,7 +15,7 @@ ghost use Rattle.am_operations.specs.OperationSteps.{IsDone, LeavesAlone, MayWan
 ghost use Rattle.am_record.specs.declared.step.Op.TheVariants.{Insert, Replace, Set, Delete};
 
 use crate::reads::find_live;
-use am_index::PartIndex;
+use am_index::{Hint, PartIndex};
 use am_parts::{Parts, Vacancy};
 use am_record::{Entry, Key, NoMemory, Reply, Value};
 use am_undo::{Note, UndoLog};
@@ -35,10 +35,11 @@ pub(crate) fn insert<I: PartIndex + Drop>(
     ensures rooms { KeepRoom parts.old.roomy parts.new.roomy parts.new.entries }
 {
     am_index::content_follows();
-    match parts.vacancy(key) {
+    let (vacancy, hint) = parts.vacancy(key, Hint::none());
+    match vacancy {
         Vacancy::Taken(_) => return Ok(Reply::Exists(key)),
-        Vacancy::Ghost(old) => make(parts, log, key, value, Some((old, true)))?,
-        Vacancy::Free => make(parts, log, key, value, None)?,
+        Vacancy::Ghost(old) => make(parts, log, key, value, Some((old, true)), hint)?,
+        Vacancy::Free => make(parts, log, key, value, None, hint)?,
     }
     Ok(Reply::Done)
 }
@@ -57,10 +58,11 @@ pub(crate) fn replace<I: PartIndex + Drop>(
     ensures memory { OnErr result (MayWantRoom (Replace key value) parts.old.entries log.old) }
     ensures rooms { KeepRoom parts.old.roomy parts.new.roomy parts.new.entries }
 {
-    let Some(live) = find_live(parts, key) else {
+    let (found, hint) = find_live(parts, key, Hint::none());
+    let Some(live) = found else {
         return Ok(Reply::Missing);
     };
-    write_over(parts, log, &live, value)?;
+    write_over(parts, log, &live, value, hint)?;
     Ok(Reply::Done)
 }
 
@@ -79,10 +81,11 @@ pub(crate) fn set<I: PartIndex + Drop>(
     ensures rooms { KeepRoom parts.old.roomy parts.new.roomy parts.new.entries }
 {
     am_effect::edits_are_known();
-    match parts.vacancy(key) {
-        Vacancy::Taken(live) => write_over(parts, log, &live, value)?,
-        Vacancy::Ghost(old) => make(parts, log, key, value, Some((old, true)))?,
-        Vacancy::Free => make(parts, log, key, value, None)?,
+    let (vacancy, hint) = parts.vacancy(key, Hint::none());
+    match vacancy {
+        Vacancy::Taken(live) => write_over(parts, log, &live, value, hint)?,
+        Vacancy::Ghost(old) => make(parts, log, key, value, Some((old, true)), hint)?,
+        Vacancy::Free => make(parts, log, key, value, None, hint)?,
     }
     Ok(Reply::Done)
 }
@@ -100,16 +103,22 @@ pub(crate) fn delete<I: PartIndex + Drop>(
     ensures memory { OnErr result (MayWantRoom (Delete key) parts.old.entries log.old) }
     ensures rooms { KeepRoom parts.old.roomy parts.new.roomy parts.new.entries }
 {
-    let Some(live) = find_live(parts, key) else {
+    let (found, hint) = find_live(parts, key, Hint::none());
+    let Some(live) = found else {
         return Ok(Reply::Missing);
     };
     log.reserve_one()?;
-    bury(parts, log, &live);
+    bury(parts, log, &live, hint);
     Ok(Reply::Done)
 }
 
 /// Marks a live entry as a ghost, which keeps its value, and notes it. The caller has the room for the note.
-pub(crate) fn bury<I: PartIndex + Drop>(parts: &mut Parts<I>, log: &mut UndoLog, live: &Entry)
+pub(crate) fn bury<I: PartIndex + Drop>(
+    parts: &mut Parts<I>,
+    log: &mut UndoLog,
+    live: &Entry,
+    hint: Hint,
+)
     requires live { IsLiveEntry parts.old.entries live.now.key live.now }
     requires values { HaveRoom parts.old.entries parts.old.roomy }
     requires room { 0 < log.old.room }
@@ -122,7 +131,7 @@ pub(crate) fn bury<I: PartIndex + Drop>(parts: &mut Parts<I>, log: &mut UndoLog,
     ensures room { log.new.room + 1 ≡ log.old.room }
     ensures rooms { KeepRoom parts.old.roomy parts.new.roomy parts.new.entries }
 {
-    parts.set(live.part, live.key, live.value, true);
+    parts.set(live.part, live.key, live.value, true, hint);
     log.note(note_of(live));
 }
 
@@ -133,6 +142,7 @@ fn make<I: PartIndex + Drop>(
     key: Key,
     value: Value,
     slot: Option<(Value, bool)>,
+    hint: Hint,
 ) -> Result<(), NoMemory>
     requires sound { AreWellFormed parts.old.entries }
     requires slot { slot ≡ find parts.old.entries 0 key }
@@ -150,7 +160,7 @@ fn make<I: PartIndex + Drop>(
 {
     am_index::content_follows();
     let Some((old, is_ghost)) = slot else {
-        return add(parts, log, key, value);
+        return add(parts, log, key, value, hint);
     };
     let entry = Entry {
         part: 0,
@@ -158,7 +168,7 @@ fn make<I: PartIndex + Drop>(
         value: old,
         is_ghost,
     };
-    write_over(parts, log, &entry, value)
+    write_over(parts, log, &entry, value, hint)
 }
 
 // A record whose key is live nowhere, where the final partition has no entry of it.
@@ -167,6 +177,7 @@ fn add<I: PartIndex + Drop>(
     log: &mut UndoLog,
     key: Key,
     value: Value,
+    hint: Hint,
 ) -> Result<(), NoMemory>
     requires absent { find parts.old.entries 0 key ≡ None }
     requires dead { get (content parts.old.entries) key ≡ None }
@@ -179,12 +190,13 @@ fn add<I: PartIndex + Drop>(
     ensures rooms { KeepRoom parts.old.roomy parts.new.roomy parts.new.entries }
 {
     log.reserve_one()?;
-    parts.add(Entry {
+    let entry = Entry {
         part: 0,
         key,
         value,
         is_ghost: false,
-    })?;
+    };
+    parts.add(entry, hint)?;
     log.note(Note::New(key));
     Ok(())
 }
@@ -195,6 +207,7 @@ fn write_over<I: PartIndex + Drop>(
     log: &mut UndoLog,
     entry: &Entry,
     value: Value,
+    hint: Hint,
 ) -> Result<(), NoMemory>
     requires there { find parts.old.entries entry.now.part entry.now.key ≡
         Some (entry.now.value, entry.now.is_ghost) }
@@ -211,8 +224,8 @@ fn write_over<I: PartIndex + Drop>(
     ensures rooms { KeepRoom parts.old.roomy parts.new.roomy parts.new.entries }
 {
     log.reserve_one()?;
-    parts.make_room(entry.part, entry.key, value.len())?;
-    overwrite(parts, log, entry, value);
+    parts.make_room(entry.part, entry.key, value.len(), hint)?;
+    overwrite(parts, log, entry, value, hint);
     Ok(())
 }
 
@@ -222,6 +235,7 @@ pub(crate) fn overwrite<I: PartIndex + Drop>(
     log: &mut UndoLog,
     entry: &Entry,
     value: Value,
+    hint: Hint,
 )
     requires there { IsSome (find parts.old.entries entry.now.part entry.now.key) }
     requires alone { LivesNowhereElse parts.old.entries entry.now.part entry.now.key }
@@ -237,7 +251,7 @@ pub(crate) fn overwrite<I: PartIndex + Drop>(
     ensures room { log.new.room + 1 ≡ log.old.room }
     ensures rooms { KeepRoom parts.old.roomy parts.new.roomy parts.new.entries }
 {
-    parts.set(entry.part, entry.key, value, false);
+    parts.set(entry.part, entry.key, value, false, hint);
     log.note(note_of(entry));
 }
 

@@ -67,7 +67,7 @@ module _ (part : ℕ) where
   all_under e [] lt = tt
   all_under e (r ∷ rs) lt = (lower_part (place_of e) (part, r.0) lt, all_under e rs lt)
 
-  -- behind entries of lower partitions
+  -- after entries of lower partitions
   pub with_run_appends : (rs : Records) (es : List Entry) → is_sorted key_cmp rs ≡ true →
       AllByRecursion (λ e. e.part < part) es → with_run part rs es ≡ es ++ run_entries part rs
   with_run_appends rs es h below = behind rs es h

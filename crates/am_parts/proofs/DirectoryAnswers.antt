@@ -6,21 +6,21 @@ use Rattle.std.proofs.lemmas.Bool.{cases_Bool, cases_eq, cond-true}
 use Rattle.am_record.specs.OrderedKey.{OrderedKey}
 use Rattle.am_record.specs.KeyNumber.{key_number}
 use Rattle.am_record.specs.declared.hash_key.HashKey.{HashKey}
-use Rattle.am_directory.specs.Tables.{Table, label, residence_of, residence_by, code_of, entered, left, HasEntered}
+use Rattle.am_directory.specs.Tables.{Tables, label, residence_of, residence_by, code_in, entered, left, HasEntered}
 use Rattle.am_directory.specs.Tables.{HasLeft}
 use Rattle.am_directory.specs.declared.residence.Residence.{Residence}
 use Rattle.am_directory.specs.declared.residence.Residence.TheVariants.{Nowhere, In, Unknown}
 use Rattle.am_parts.specs.Residences.{Allows, Tells, place_of}
 
 -- nothing is known of any key by a directory that is lost
-lost : (t : Table) (n : ℕ) → t.is_lost ≡ true → residence_of t n ≡ Unknown
+lost : (t : Tables) (n : ℕ) → t.is_lost ≡ true → residence_of t n ≡ Unknown
 unfolding residence_of
 lost t n h = cond-true t.is_lost Unknown _ h
 
 -- numbers of one label have one residence
-same_residence : (t : Table) (n m : ℕ) → label n ≡ label m → residence_of t n ≡ residence_of t m
+same_residence : (t : Tables) (n m : ℕ) → label n ≡ label m → residence_of t n ≡ residence_of t m
 unfolding residence_of
-same_residence t n m h = ap (λ (l : ℕ). cond t.is_lost Unknown (residence_by (code_of t.words l))) h
+same_residence t n m h = ap (λ (l : ℕ). cond t.is_lost Unknown (residence_by (code_in t l))) h
 
 nowhere_known : Nowhere ≢ Unknown
 nowhere_known h = absurd (cc)
@@ -48,20 +48,20 @@ entered_allows (In q) run = tt
 entered_allows Unknown run = tt
 
 module _ (hash : HashKey) where
-  abbrev pub of : Table → OrderedKey → Residence
+  abbrev pub of : Tables → OrderedKey → Residence
   of t key = residence_of t (key_number hash key)
 
   abbrev pub tag : OrderedKey → ℕ
   tag key = label (key_number hash key)
 
   -- a directory that is lost allows all
-  pub tells_lost : (L : OrderedKey → ℕ → Type 0) (t : Table) → t.is_lost ≡ true → Tells L hash t
+  pub tells_lost : (L : OrderedKey → ℕ → Type 0) (t : Tables) → t.is_lost ≡ true → Tells L hash t
   tells_lost L t is_lost = record {
     allowed = λ key part lives. allows_unknown (of t key) part (lost t (key_number hash key) is_lost);
     alone = λ key other part part' lives lives' tags known. absurd (known (lost t (key_number hash key) is_lost));
   }
 
-  module _ (L L' : OrderedKey → ℕ → Type 0) (t t' : Table) (was : Tells L hash t) where
+  module _ (L L' : OrderedKey → ℕ → Type 0) (t t' : Tables) (was : Tells L hash t) where
     -- fewer keys are live, and no more is told
     pub tells_fewer : ((key : OrderedKey) (part : ℕ) → L' key part → L key part) →
         ((n : ℕ) → residence_of t' n ≡ residence_of t n) → Tells L' hash t'

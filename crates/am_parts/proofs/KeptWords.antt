@@ -16,7 +16,7 @@ use Rattle.am_record.specs.declared.entry.Entry.{Entry}
 use Rattle.am_record.proofs.FirstRows.{Record}
 use Rattle.am_index.specs.Edits.{same_place}
 use Rattle.am_index.specs.Entries.{Slot, find, insert_entry, set_entry, remove_entry, IsRising}
-use Rattle.am_directory.specs.Tables.{Table, label, code_of, code_left, code_let_go, HasCode, IsEntered}
+use Rattle.am_directory.specs.Tables.{Tables, label, code_in, code_left, code_let_go, HasCode, IsEntered}
 use Rattle.am_index.specs.Runs.{live_entry, run_entries}
 use Rattle.am_index.proofs.Edits.{find-hit, find-miss, other_part, same_place-itself}
 use Rattle.am_index.proofs.Lists.{rising_remove}
@@ -50,7 +50,7 @@ never_asleep c e = ⊎_elim
     (λ (other : c ≢ 2). other (sym (cond-false (eqb c 2) 1 c (ne_eqb c 2 other)) ∙ e))
     (cases_eq c 2)
 
-module _ (hash : HashKey) (L L' : OrderedKey → ℕ → Type 0) (E E' : OrderedKey → Type 0) (t t' : Table)
+module _ (hash : HashKey) (L L' : OrderedKey → ℕ → Type 0) (E E' : OrderedKey → Type 0) (t t' : Tables)
     (was : KeepsFor L E hash t) where
   tag : OrderedKey → ℕ
   tag key = label (key_number hash key)
@@ -66,17 +66,17 @@ module _ (hash : HashKey) (L L' : OrderedKey → ℕ → Type 0) (E E' : Ordered
 
   -- the words are those of before, or not kept, and no key went
   pub keeps_on : ((key : OrderedKey) (part : ℕ) → L key part → L' key part) → ((key : OrderedKey) → E key → E' key) →
-      ((sought : ℕ) → (code_of t'.words sought ≡ 0) ⊎ (code_of t'.words sought ≡ code_of t.words sought)) →
+      ((sought : ℕ) → (code_in t' sought ≡ 0) ⊎ (code_in t' sought ≡ code_in t sought)) →
       KeepsFor L' E' hash t'
   keeps_on live stand codes = record {
     named = λ sought place e. ⊎_elim
-        (λ (none : code_of t'.words sought ≡ 0). absurd (omega (arith, none, e)))
-        (λ (same : code_of t'.words sought ≡ code_of t.words sought).
+        (λ (none : code_in t' sought ≡ 0). absurd (omega (arith, none, e)))
+        (λ (same : code_in t' sought ≡ code_in t sought).
         moved sought (λ key tagged it. (it.0, live key it.0 it.1, it.2)) (was.named sought place (sym same ∙ e)))
         (codes sought);
     asleep = λ sought e. ⊎_elim
-        (λ (none : code_of t'.words sought ≡ 0). absurd (omega (arith, none, e)))
-        (λ (same : code_of t'.words sought ≡ code_of t.words sought).
+        (λ (none : code_in t' sought ≡ 0). absurd (omega (arith, none, e)))
+        (λ (same : code_in t' sought ≡ code_in t sought).
         moved sought (λ key tagged it. stand key it) (was.asleep sought (sym same ∙ e)))
         (codes sought);
   }
@@ -88,20 +88,20 @@ module _ (hash : HashKey) (L L' : OrderedKey → ℕ → Type 0) (E E' : Ordered
     -- the key is live in one run more
     pub keeps_entered : (p : ℕ) → ((key : OrderedKey) (part : ℕ) → L key part → L' key part) →
         ((key : OrderedKey) → E key → E' key) → L' k p →
-        HasCode t (key_number hash k) (IsEntered (code_of t.words (label (key_number hash k))) (place_of p)) t' →
+        HasCode t (key_number hash k) (IsEntered (code_in t (label (key_number hash k))) (place_of p)) t' →
         KeepsFor L' E' hash t'
     unfolding tag
     keeps_entered p live stand lives_now change = record {
       named = λ sought place e. ⊎_elim
           (λ (own : sought ≡ tag k).
-          let code : code_of t'.words (tag k) ≡ place + 4 = ap (code_of t'.words) (sym own) ∙ e in
+          let code : code_in t' (tag k) ≡ place + 4 = ap (code_in t') (sym own) ∙ e in
           ⊎_elim
-          (λ (same : code_of t'.words (tag k) ≡ code_of t.words (tag k)).
+          (λ (same : code_in t' (tag k) ≡ code_in t (tag k)).
           moved sought (λ key tagged it. (it.0, live key it.0 it.1, it.2))
-          (was.named sought place (ap (code_of t.words) own ∙ sym same ∙ code)))
+          (was.named sought place (ap (code_in t) own ∙ sym same ∙ code)))
           (λ changed. ⊎_elim
-          (λ (unknown : code_of t'.words (tag k) ≡ 3). absurd (omega (arith, unknown, code)))
-          (λ (its : code_of t'.words (tag k) ≡ place_of p + 4).
+          (λ (unknown : code_in t' (tag k) ≡ 3). absurd (omega (arith, unknown, code)))
+          (λ (its : code_in t' (tag k) ≡ place_of p + 4).
           let is : place_of p ≡ place = omega (arith, its, code) in
           record { key = k; labelled = sym own; meets = (p, lives_now, is) })
           changed)
@@ -112,14 +112,14 @@ module _ (hash : HashKey) (L L' : OrderedKey → ℕ → Type 0) (E E' : Ordered
           (cases_eq sought (tag k));
       asleep = λ sought e. ⊎_elim
           (λ (own : sought ≡ tag k).
-          let code : code_of t'.words (tag k) ≡ 2 = ap (code_of t'.words) (sym own) ∙ e in
+          let code : code_in t' (tag k) ≡ 2 = ap (code_in t') (sym own) ∙ e in
           ⊎_elim
-          (λ (same : code_of t'.words (tag k) ≡ code_of t.words (tag k)).
+          (λ (same : code_in t' (tag k) ≡ code_in t (tag k)).
           moved sought (λ key tagged it. stand key it)
-          (was.asleep sought (ap (code_of t.words) own ∙ sym same ∙ code)))
+          (was.asleep sought (ap (code_in t) own ∙ sym same ∙ code)))
           (λ changed. ⊎_elim
-          (λ (unknown : code_of t'.words (tag k) ≡ 3). absurd (omega (arith, unknown, code)))
-          (λ (its : code_of t'.words (tag k) ≡ place_of p + 4). absurd (omega (arith, its, code)))
+          (λ (unknown : code_in t' (tag k) ≡ 3). absurd (omega (arith, unknown, code)))
+          (λ (its : code_in t' (tag k) ≡ place_of p + 4). absurd (omega (arith, its, code)))
           changed)
           change.now)
           (λ (other : sought ≢ tag k).
@@ -130,13 +130,13 @@ module _ (hash : HashKey) (L L' : OrderedKey → ℕ → Type 0) (E E' : Ordered
     -- it is live no more, but has an entry
     pub keeps_asleep : ((key : OrderedKey) (part : ℕ) → key ≢ k → L key part → L' key part) →
         ((key : OrderedKey) → E key → E' key) → E' k →
-        HasCode t (key_number hash k) (λ c. c ≡ code_left (code_of t.words (label (key_number hash k)))) t' →
+        HasCode t (key_number hash k) (λ c. c ≡ code_left (code_in t (label (key_number hash k)))) t' →
         KeepsFor L' E' hash t'
     unfolding tag
     keeps_asleep live stand stands change = record {
       named = λ sought place e. ⊎_elim
           (λ (own : sought ≡ tag k).
-          absurd (leaves (code_of t.words (tag k)) place (sym change.now ∙ ap (code_of t'.words) (sym own) ∙ e)))
+          absurd (leaves (code_in t (tag k)) place (sym change.now ∙ ap (code_in t') (sym own) ∙ e)))
           (λ (other : sought ≢ tag k).
           moved sought (λ key tagged it. (it.0, live key it.0 (apart key sought tagged other) it.1, it.2))
           (was.named sought place (sym (change.others sought other) ∙ e)))
@@ -151,22 +151,22 @@ module _ (hash : HashKey) (L L' : OrderedKey → ℕ → Type 0) (E E' : Ordered
     -- an entry of it went that was a ghost
     pub keeps_ghost_gone : ((key : OrderedKey) (part : ℕ) → L key part → L' key part) →
         ((key : OrderedKey) → key ≢ k → E key → E' key) →
-        HasCode t (key_number hash k) (λ c. c ≡ code_let_go (code_of t.words (label (key_number hash k)))) t' →
+        HasCode t (key_number hash k) (λ c. c ≡ code_let_go (code_in t (label (key_number hash k)))) t' →
         KeepsFor L' E' hash t'
     unfolding tag
     keeps_ghost_gone live stand change = record {
       named = λ sought place e. ⊎_elim
           (λ (own : sought ≡ tag k).
           moved sought (λ key tagged it. (it.0, live key it.0 it.1, it.2))
-          (was.named sought place (ap (code_of t.words) own ∙
-          let_go_from (code_of t.words (tag k)) place (sym change.now ∙ ap (code_of t'.words) (sym own) ∙ e))))
+          (was.named sought place (ap (code_in t) own ∙
+          let_go_from (code_in t (tag k)) place (sym change.now ∙ ap (code_in t') (sym own) ∙ e))))
           (λ (other : sought ≢ tag k).
           moved sought (λ key tagged it. (it.0, live key it.0 it.1, it.2))
           (was.named sought place (sym (change.others sought other) ∙ e)))
           (cases_eq sought (tag k));
       asleep = λ sought e. ⊎_elim
           (λ (own : sought ≡ tag k).
-          absurd (never_asleep (code_of t.words (tag k)) (sym change.now ∙ ap (code_of t'.words) (sym own) ∙ e)))
+          absurd (never_asleep (code_in t (tag k)) (sym change.now ∙ ap (code_in t') (sym own) ∙ e)))
           (λ (other : sought ≢ tag k).
           moved sought (λ key tagged it. stand key (apart key sought tagged other) it)
           (was.asleep sought (sym (change.others sought other) ∙ e)))
@@ -174,24 +174,24 @@ module _ (hash : HashKey) (L L' : OrderedKey → ℕ → Type 0) (E E' : Ordered
     }
 
     -- an entry of it went that was live
-    pub keeps_gone : (mid : Table) → ((key : OrderedKey) (part : ℕ) → key ≢ k → L key part → L' key part) →
+    pub keeps_gone : (mid : Tables) → ((key : OrderedKey) (part : ℕ) → key ≢ k → L key part → L' key part) →
         ((key : OrderedKey) → key ≢ k → E key → E' key) →
-        HasCode t (key_number hash k) (λ c. c ≡ code_left (code_of t.words (label (key_number hash k)))) mid →
-        HasCode mid (key_number hash k) (λ c. c ≡ code_let_go (code_of mid.words (label (key_number hash k)))) t' →
+        HasCode t (key_number hash k) (λ c. c ≡ code_left (code_in t (label (key_number hash k)))) mid →
+        HasCode mid (key_number hash k) (λ c. c ≡ code_let_go (code_in mid (label (key_number hash k)))) t' →
         KeepsFor L' E' hash t'
     unfolding tag
     keeps_gone mid live stand left let_go = record {
       named = λ sought place e. ⊎_elim
           (λ (own : sought ≡ tag k).
-          absurd (leaves (code_of t.words (tag k)) place (sym left.now ∙
-          let_go_from (code_of mid.words (tag k)) place (sym let_go.now ∙ ap (code_of t'.words) (sym own) ∙ e))))
+          absurd (leaves (code_in t (tag k)) place (sym left.now ∙
+          let_go_from (code_in mid (tag k)) place (sym let_go.now ∙ ap (code_in t') (sym own) ∙ e))))
           (λ (other : sought ≢ tag k).
           moved sought (λ key tagged it. (it.0, live key it.0 (apart key sought tagged other) it.1, it.2))
           (was.named sought place (sym (left.others sought other) ∙ sym (let_go.others sought other) ∙ e)))
           (cases_eq sought (tag k));
       asleep = λ sought e. ⊎_elim
           (λ (own : sought ≡ tag k).
-          absurd (never_asleep (code_of mid.words (tag k)) (sym let_go.now ∙ ap (code_of t'.words) (sym own) ∙ e)))
+          absurd (never_asleep (code_in mid (tag k)) (sym let_go.now ∙ ap (code_in t') (sym own) ∙ e)))
           (λ (other : sought ≢ tag k).
           moved sought (λ key tagged it. stand key (apart key sought tagged other) it)
           (was.asleep sought (sym (left.others sought other) ∙ sym (let_go.others sought other) ∙ e)))
@@ -200,8 +200,8 @@ module _ (hash : HashKey) (L L' : OrderedKey → ℕ → Type 0) (E E' : Ordered
 
     -- an entry of it went, and its label has no word
     pub keeps_unknown_gone : ((key : OrderedKey) (part : ℕ) → key ≢ k → L key part → L' key part) →
-        ((key : OrderedKey) → key ≢ k → E key → E' key) → code_of t.words (label (key_number hash k)) ≡ 0 →
-        ((sought : ℕ) → code_of t'.words sought ≡ code_of t.words sought) →
+        ((key : OrderedKey) → key ≢ k → E key → E' key) → code_in t (label (key_number hash k)) ≡ 0 →
+        ((sought : ℕ) → code_in t' sought ≡ code_in t sought) →
         KeepsFor L' E' hash t'
     unfolding tag
     keeps_unknown_gone live stand none same = record {
@@ -209,7 +209,7 @@ module _ (hash : HashKey) (L L' : OrderedKey → ℕ → Type 0) (E E' : Ordered
           (λ (own : sought ≡ tag k). absurd (omega (
             arith,
             none,
-            ap (code_of t.words) (sym own) ∙ sym (same sought) ∙
+            ap (code_in t) (sym own) ∙ sym (same sought) ∙
                 e,
           )))
           (λ (other : sought ≢ tag k).
@@ -220,7 +220,7 @@ module _ (hash : HashKey) (L L' : OrderedKey → ℕ → Type 0) (E E' : Ordered
           (λ (own : sought ≡ tag k). absurd (omega (
             arith,
             none,
-            ap (code_of t.words) (sym own) ∙ sym (same sought) ∙
+            ap (code_in t) (sym own) ∙ sym (same sought) ∙
                 e,
           )))
           (λ (other : sought ≢ tag k).
@@ -323,7 +323,7 @@ run_places (m ∷ ms) es rising part key run =
 -- lists with the same runs
 module _ (hash : HashKey) (es es' : List Entry)
     (same : (part : ℕ) (key : OrderedKey) → 0 < part → find es' part key ≡ find es part key) where
-  pub keeps_runs : (t : Table) → KeepsFor (LivesInRun es) (StandsInRun es) hash t →
+  pub keeps_runs : (t : Tables) → KeepsFor (LivesInRun es) (StandsInRun es) hash t →
       KeepsFor (LivesInRun es') (StandsInRun es') hash t
   keeps_runs t was = keeps_on hash (LivesInRun es) (LivesInRun es') (StandsInRun es) (StandsInRun es') t t was
       (λ key part it. lives it.value it.is_run (same part key it.is_run ∙ it.live.there))
@@ -344,8 +344,8 @@ kept_then {es} sound xs stretch n le r was =
 
 -- ---- neighbours whose labels have no words go
 
-pub kept_past : (hash : HashKey) (t : Table) (front xs back : List Entry) → IsRising (front ++ (xs ++ back)) →
-    ((i : ℕ) (e : Entry) → i < length xs → code_of t.words (label (key_number hash (get_or xs i e).key)) ≡ 0) →
+pub kept_past : (hash : HashKey) (t : Tables) (front xs back : List Entry) → IsRising (front ++ (xs ++ back)) →
+    ((i : ℕ) (e : Entry) → i < length xs → code_in t (label (key_number hash (get_or xs i e).key)) ≡ 0) →
     KeepsFor (LivesInRun (front ++ (xs ++ back))) (StandsInRun (front ++ (xs ++ back))) hash t →
     KeepsFor (LivesInRun (front ++ back)) (StandsInRun (front ++ back)) hash t
 kept_past hash t front [] back rise none was = was
@@ -374,7 +374,7 @@ in_front (e ∷ es) fs part key s there = ⊎_elim
     there))
     (cases_Bool (same_place e.part e.key part key))
 
--- what stands behind others, and not among them
+-- what stands after others, and not among them
 behind_them : (es fs : List Entry) (part : ℕ) (key : OrderedKey) → AllByRecursion (λ e. e.part < part) es →
     find (es ++ fs) part key ≡ find fs part key
 behind_them [] fs part key below = refl
@@ -433,10 +433,10 @@ module _ (es : List Entry) (part : ℕ) (rs : Records) where
 
   -- one is let go
   pub one_let_go : (hash : HashKey) (i : ℕ) (pair : Record) → i < length rs → pair ≡ get_or rs i pair →
-      (old mid new : Table) →
-      HasCode old (key_number hash pair.0) (λ c. c ≡ code_left (code_of old.words (label (key_number hash pair.0))))
+      (old mid new : Tables) →
+      HasCode old (key_number hash pair.0) (λ c. c ≡ code_left (code_in old (label (key_number hash pair.0))))
       mid →
-      HasCode mid (key_number hash pair.0) (λ c. c ≡ code_let_go (code_of mid.words (label (key_number hash pair.0))))
+      HasCode mid (key_number hash pair.0) (λ c. c ≡ code_let_go (code_in mid (label (key_number hash pair.0))))
       new →
       KeepsFor (With i (length rs)) (StandsInRun es) hash old →
       KeepsFor (With (i + 1) (length rs)) (StandsInRun es) hash new
@@ -459,7 +459,7 @@ module _ (es : List Entry) (part : ℕ) (rs : Records) where
       (λ key run it. ⊎_elim (λ here. here) (λ with. absurd (omega (arith, with.1.1, with.1.2))) it)
       (λ key it. it) (λ sought. inr refl)
 
-  -- all were entered, and the run stands behind the others
+  -- all were entered, and the run stands after the others
   pub all_entered : 0 < part → AllByRecursion (λ e. e.part < part) es → (r : Residences) →
       KeepNoneWith es part rs 0 (length rs) r → KeepNoneInVain (es ++ run_entries part rs) r
   all_entered is_run below r was =

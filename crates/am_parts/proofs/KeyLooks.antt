@@ -15,7 +15,9 @@ use Rattle.am_parts.specs.declared.catalog.OpenRun.{OpenRun}
 use Rattle.am_parts.specs.Catalogs.{parts_of, is_one_of, PartsRise, AreListed}
 use Rattle.am_parts.specs.Partitions.{AreWellFormed, AreEmpty, AreEmptyFrom, LivesIn, LivesInNoRun, IsLiveEntry}
 use Rattle.am_parts.specs.Partitions.{IsVacancy, vacancy_over}
-use Rattle.am_parts.specs.Residences.{LivesInRun, place_of}
+use Rattle.am_directory.specs.declared.residence.Residence.{Residence}
+use Rattle.am_directory.specs.declared.residence.Residence.TheVariants.{Nowhere}
+use Rattle.am_parts.specs.Residences.{LivesInRun, Allows, place_of}
 use Rattle.am_parts.proofs.Lives.{laws_of, lives_in}
 use Rattle.am_parts.proofs.ListedRuns.{is_listed, some_left}
 
@@ -117,11 +119,6 @@ of_none (Some e) not h = absurd (not e refl)
 
 -- a key that lives nowhere
 module _ (es : List Entry) (key : OrderedKey) (sound : AreWellFormed es) where
-  pub none_lives : (o : Option Entry) → is_some (live_value (find es 0 key)) ≡ false → IfNone o (LivesInNoRun es key) →
-      IfNone o (get (content es) key ≡ None)
-  none_lives None dead none = lives_nowhere sound dead none
-  none_lives (Some e) dead none = tt
-
   -- what stands at a place where nothing lives is a ghost
   pub vacant : is_some (live_value (find es 0 key)) ≡ false → get (content es) key ≡ None →
       IsVacancy es key (vacancy_over (find es 0 key))
@@ -132,6 +129,13 @@ module _ (es : List Entry) (key : OrderedKey) (sound : AreWellFormed es) where
       by_cases (Some (value, true)) is = (is, none)
       by_cases (Some (value, false)) is = absurd (true≢false
           (sym (ap (λ (s : Option Slot). is_some (live_value s)) is) ∙ dead))
+
+  pub vacant_over : (slot : Option Slot) → slot ≡ find es 0 key → is_some (live_value slot) ≡ false →
+      LivesInNoRun es key → IsVacancy es key (vacancy_over slot)
+  vacant_over slot found dead none =
+      let here = ap (λ (s : Option Slot). is_some (live_value s)) (sym found) ∙ dead in
+      subst (IsVacancy es key) (ap vacancy_over (sym found))
+      (vacant here (lives_nowhere {es = es} {key = key} sound here none))
 
 -- ---- partitions without entries
 
@@ -182,6 +186,23 @@ live_in_no_run {es} {n} {runs} key h none = record {
         (λ here. none.0 value (subst (λ (p : ℕ). IsLiveAt es p key value) (sym (eqb-true r.part part here)) live))
         (λ later. in_list rs part value live none.1 later)
         (or_cases (r.part == part) (is_one_of (parts_of rs) part) one)
+
+-- ---- a look that needs no run
+
+-- where no run is listed, none has the key live
+pub none_listed : {es : List Entry} {n : ℕ} (runs : List OpenRun) (key : OrderedKey) (run : ℕ) → AreListed es n runs →
+    length runs ≡ 0 → LivesInRun es key run → ⊥
+none_listed [] key run h none it = false≢true (is_listed h run key it.is_run (ap is_some it.live.there))
+none_listed (r ∷ rs) key run h none it = absurd (omega (arith, none))
+
+-- the same where it is known to be live in none
+pub lives_not : {es : List Entry} {key : OrderedKey} (r : Residence) →
+    ((run : ℕ) → LivesInRun es key run → Allows r run) → r ≡ Nowhere → LivesInNoRun es key
+lives_not r known nowhere = record {
+  none = λ part value some live.
+      subst (λ (q : Residence). Allows q part) nowhere (known part
+      (record { is_run = some; value = value; live = live }));
+}
 
 -- ---- a look in the runs of a place
 
@@ -257,6 +278,10 @@ not_found es part key slot found None dead = λ it.
 pub said_of_some : {A : Type 0} (o : Option A) (P : A → Type 0) → is_some o ≡ true → IfSome o P → (x : A) × P x
 said_of_some None P some h = absurd (false≢true some)
 said_of_some (Some x) P some h = (x, h)
+
+pub not_none : {A : Type 0} (o : Option A) (P : Type 0) → is_some o ≡ true → IfNone o P
+not_none None P some = absurd (false≢true some)
+not_none (Some x) P some = tt
 
 pub said_of_none : {A : Type 0} (o : Option A) (P : Type 0) → is_some o ≡ false → IfNone o P → P
 said_of_none None P none h = h

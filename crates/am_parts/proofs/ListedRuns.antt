@@ -384,7 +384,7 @@ listed_set {es} {n} {runs} part key value is_ghost h = record {
   rising = h.rising;
 }
 
--- a run more behind all others
+-- a run more after all others
 module _ {es : List Entry} {n : ℕ} {runs : List OpenRun} (h : AreListed es n runs) (part : ℕ)
     (rs : Records) (nxt : IsNext es part rs) (s : OpenRun) (at : s.part ≡ part)
     (many : s.left ≡ length rs) where

@@ -105,7 +105,7 @@ left_length zero xs le = omega arith
 left_length (suc n) [] le = absurd (omega (arith, le))
 left_length (suc n) (x ∷ xs) le = omega (arith, left_length n xs (omega (arith, le)))
 
--- the next one, and those behind it
+-- the next one, and those after it
 module _ (xs : List Entry) (at : ℕ) (x : Entry) (here : x ≡ get_or xs at x) (lt : at < length xs) where
   pub next_is : drop at xs ≡ x ∷ drop (suc at) xs
   next_is = drop-cons xs at x lt ∙ ap (λ y. y ∷ drop (suc at) xs) (sym here)
@@ -243,7 +243,7 @@ fewer_all_settled (m ∷ ms) es rise key part it =
 
 module _ (front : List Entry) (x : Entry) (behind : List Entry) (rise : IsRising (front ++ x ∷ behind))
     (run : 0 < x.part) where
-  -- those behind it stand in runs too
+  -- those after it stand in runs too
   behind_in_runs : AllInRuns (x ∷ behind)
   behind_in_runs = (
     run,

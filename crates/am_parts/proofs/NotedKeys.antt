@@ -1,15 +1,15 @@
 -- What a directory tells while the keys of a run to come are entered, and while they are forgotten.
 use Rattle.std.proofs.Common.{◌≡◌, ◌≢◌, ◌⊎◌, inl, inr, ⊎_elim, ℕ, zero, suc, ◌+◌, ◌<◌, ◌≤◌, true, List, [], ◌∷◌, ◌++◌}
-use Rattle.std.proofs.Common.{length, get_or, take, map, refl, sym, ap, ◌∙◌, subst, arith}
+use Rattle.std.proofs.Common.{length, get_or, take, drop, map, refl, sym, ap, ◌∙◌, subst, arith}
 use Rattle.std.specs.declared.cmp.Ordering.TheVariants.{Less}
 use Rattle.std.specs.Ordering.{is_lt}
 use Rattle.std.specs.List.{AllByRecursion}
 use Rattle.std.specs.FinMap.{is_sorted}
 use Rattle.std.specs.FinMap.Entries.{below_all}
 use Rattle.std.proofs.lemmas.Bool.{and_parts, and_from, cases_eq, or_left, or_right}
-use Rattle.std.proofs.lemmas.List.{get_or_default, get_or-take, length-take-le}
+use Rattle.std.proofs.lemmas.List.{drop-map, drop_more, get_or_default, get_or-take, length-take-le}
 use Rattle.am_record.specs.OrderedKey.{OrderedKey, key_cmp}
-use Rattle.am_record.specs.KeyNumber.{key_number}
+use Rattle.am_record.specs.KeyNumber.{key_number, numbers_of}
 use Rattle.am_record.specs.Plain.{Records, is_key_of}
 use Rattle.am_record.specs.declared.hash_key.HashKey.{HashKey}
 use Rattle.am_record.specs.declared.entry.Entry.{Entry}
@@ -18,7 +18,7 @@ use Rattle.am_record.proofs.Lists.{AllByRecursion-at}
 use Rattle.am_record.proofs.Orderings.{is_less}
 use Rattle.am_index.specs.Content.{IsLiveAt}
 use Rattle.am_index.specs.Runs.{live_entry, run_entries}
-use Rattle.am_directory.specs.Tables.{Table, residence_of, HasLeft}
+use Rattle.am_directory.specs.Tables.{Tables, residence_of, HasLeft}
 use Rattle.am_directory.specs.declared.residence.Residence.{Residence}
 use Rattle.am_directory.specs.declared.residence.Residence.TheVariants.{Nowhere}
 use Rattle.am_parts.specs.declared.residences.Residences.{Residences}
@@ -137,7 +137,7 @@ module _ (es : List Entry) (part : ℕ) (rs : Records) where
       (tells_entered old.hash (Lives 0 i) (Lives 0 (i + 1)) old.directory new.directory was pair.0 part
       (one_more i pair.0 (key_at rs i pair lt is)) change.entered)
 
-  -- all are, and the run stands behind the others
+  -- all are, and the run stands after the others
   pub all_noted : (r : Residences) → Tell (Lives 0 (length rs)) r → AreResidences (es ++ run_entries part rs) r
   all_noted r was = tells_fewer r.hash (Lives 0 (length rs)) (LivesInRun (es ++ run_entries part rs)) r.directory
       r.directory was
@@ -187,7 +187,7 @@ module _ (es : List Entry) (part : ℕ) (rs : Records) where
         (ap (λ (q : Record). q.0) (sym is) ∙ sym (with.1.3 pair)))
         it
 
-    pub one_forgotten : (hash : HashKey) (old mid new : Table) → HasLeft old (key_number hash pair.0) mid →
+    pub one_forgotten : (hash : HashKey) (old mid new : Tables) → HasLeft old (key_number hash pair.0) mid →
         ((m : ℕ) → residence_of new m ≡ residence_of mid m) → Tells (Lives i n) hash old →
         Tells (Lives (i + 1) n) hash new
     one_forgotten hash old mid new left same was =
@@ -210,3 +210,13 @@ first_numbers f (x ∷ xs) [] few at = absurd (omega arith)
 first_numbers f (x ∷ xs) (n ∷ numbers) few at =
     ap (λ m. m ∷ take (length xs) numbers) (at 0 0 x (omega arith)) ∙
     ap (λ ms. f x ∷ ms) (first_numbers f xs numbers (omega arith) (λ i d y less. at (suc i) d y (omega arith)))
+
+-- the numbers from a place on begin with that of the record there
+pub next_number : (hash : HashKey) (rs : Records) (at : ℕ) (pair : Record) (number : ℕ) → at < length rs →
+    pair ≡ get_or rs at pair → number ≡ key_number hash pair.0 →
+    drop at (numbers_of hash rs) ≡ number ∷ drop (at + 1) (numbers_of hash rs)
+next_number hash rs at pair number lt is theirs =
+    let f : Record → ℕ = λ r. key_number hash r.0 in
+    drop-map f at rs ∙ ap (map f) (drop_more rs at pair lt) ∙
+    ap (λ (n : ℕ). n ∷ map f (drop (at + 1) rs)) (ap f (sym is) ∙ sym theirs) ∙
+    ap (λ (ns : List ℕ). number ∷ ns) (sym (drop-map f (at + 1) rs))

@@ -93,7 +93,7 @@ run_content part (r ∷ rs) es h =
       absent = still_absent part es es' r refl has rs p.0 h.absent.1;
     }))
 
--- ---- a run behind all entries
+-- ---- a run after all entries
 
 none_there : (part : ℕ) (key : OrderedKey) (es : List Entry) → AllByRecursion (λ e. e.part < part) es →
     find es part key ≡ None

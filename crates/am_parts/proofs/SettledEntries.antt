@@ -68,7 +68,7 @@ fewer_live (suc n) zero es le live = absurd (omega (arith, le))
 fewer_live (suc n) (suc m) [] le live = tt
 fewer_live (suc n) (suc m) (e ∷ es) le live = (live.0, fewer_live n m es (omega (arith, le)) live.1)
 
--- those of the others behind the first
+-- those of the others after the first
 pub homes_left : (n : ℕ) (es homes : List Entry) → AreHomesOf es homes → AreHomesOf (drop n es) (drop n homes)
 homes_left zero es homes h = h
 homes_left (suc n) es [] h = record { first = refl; live = tt; rising = tt }
@@ -82,7 +82,7 @@ pub settled_on : (xs ys es : List Entry) → all_settled (xs ++ ys) es ≡ all_s
 settled_on [] ys es = refl
 settled_on (x ∷ xs) ys es = settled_on xs ys (settled_too x es)
 
--- an entry goes behind where it does so of the last one
+-- an entry goes after where it does so of the last one
 pub behind_last : (xs : List Entry) (i : ℕ) (x y : Entry) → suc i ≡ length xs → x ≡ get_or xs i x →
     goes_behind xs y ≡ is_lt (place_cmp (place_of x) (place_of y))
 behind_last [] i x y last here = absurd (omega arith)

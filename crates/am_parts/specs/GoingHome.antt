@@ -23,7 +23,7 @@ pub record AreHomesOf (es homes : List Entry) : Type 0 where
   pub live : AllByRecursion (λ e. e.is_ghost ≡ false) (take (length homes) es)
   pub rising : IsRising homes
 
--- the entry's place is behind that of the last of these, if there is one
+-- the entry's place is after that of the last of these, if there is one
 abbrev pub goes_behind : List Entry → Entry → Bool
 goes_behind [] e = true
 goes_behind (f ∷ []) e = is_lt (place_cmp (place_of f) (place_of e))

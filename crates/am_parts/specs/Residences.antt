@@ -7,7 +7,8 @@ use Rattle.am_record.specs.declared.hash_key.HashKey.{HashKey}
 use Rattle.am_record.specs.declared.entry.Entry.{Entry}
 use Rattle.am_index.specs.Content.{IsLiveAt}
 use Rattle.am_index.specs.Entries.{find}
-use Rattle.am_directory.specs.Tables.{Table, label, code_of, residence_of, empty_in, HasCode, HasEntered, IsEntered}
+use Rattle.am_directory.specs.Tables.{Tables, label, code_in, residence_of, HasCode, HasEntered, IsEntered}
+use Rattle.am_directory.specs.Room.{HasRoom}
 use Rattle.am_directory.specs.declared.residence.Residence.{Residence}
 use Rattle.am_directory.specs.declared.residence.Residence.TheVariants.{Nowhere, In, Unknown}
 use Rattle.am_parts.specs.declared.residences.Residences.{Residences}
@@ -38,7 +39,7 @@ Allows Unknown run = Unit {0}
 
 -- of the keys that are live in runs: what is told of each allows its run, and where something is known of a label, one
 -- key of it alone is live
-pub record Tells (Lives : OrderedKey → ℕ → Type 0) (hash : HashKey) (t : Table) : Type 0 where
+pub record Tells (Lives : OrderedKey → ℕ → Type 0) (hash : HashKey) (t : Tables) : Type 0 where
   pub allowed : (key : OrderedKey) (part : ℕ) → Lives key part → Allows (residence_of t (key_number hash key)) part
   pub alone : (key other : OrderedKey) (part part' : ℕ) → Lives key part → Lives other part' →
       label (key_number hash key) ≡ label (key_number hash other) →
@@ -64,10 +65,10 @@ pub record HasKey (hash : HashKey) (sought : ℕ) (Meets : OrderedKey → Type 0
 
 -- no word is kept in vain, but for those of labels of which nothing is known: where one names a place, a key of its
 -- label is live in a run of it, and where one says that none is live, a key of its label has an entry in a run
-pub record KeepsFor (Lives : OrderedKey → ℕ → Type 0) (Stands : OrderedKey → Type 0) (hash : HashKey) (t : Table) : Type
-    0 where
-  pub named : (sought place : ℕ) → code_of t.words sought ≡ place + 4 → HasKey hash sought (LivesAt Lives place)
-  pub asleep : (sought : ℕ) → code_of t.words sought ≡ 2 → HasKey hash sought Stands
+pub record KeepsFor (Lives : OrderedKey → ℕ → Type 0) (Stands : OrderedKey → Type 0) (hash : HashKey) (t : Tables) :
+    Type 0 where
+  pub named : (sought place : ℕ) → code_in t sought ≡ place + 4 → HasKey hash sought (LivesAt Lives place)
+  pub asleep : (sought : ℕ) → code_in t sought ≡ 2 → HasKey hash sought Stands
 
 abbrev pub KeepNoneInVain : List Entry → Residences → Type 0
 KeepNoneInVain es r = KeepsFor (LivesInRun es) (StandsInRun es) r.hash r.directory
@@ -75,19 +76,19 @@ KeepNoneInVain es r = KeepsFor (LivesInRun es) (StandsInRun es) r.hash r.directo
 -- what is told of the key's label alone may have changed
 abbrev pub OthersStay : Residences → OrderedKey → Residences → Type 0
 OthersStay old key new = (sought : ℕ) → sought ≢ label (key_number old.hash key) →
-    code_of new.directory.words sought ≡ code_of old.directory.words sought
+    code_in new.directory sought ≡ code_in old.directory sought
 
 -- one more key is live in the run
 pub record HasNoted (old : Residences) (key : OrderedKey) (part : ℕ) (new : Residences) : Type 0 where
   pub hash : new.hash ≡ old.hash
   pub code : HasCode old.directory (key_number old.hash key)
-      (IsEntered (code_of old.directory.words (label (key_number old.hash key))) (place_of part)) new.directory
+      (IsEntered (code_in old.directory (label (key_number old.hash key))) (place_of part)) new.directory
   pub entered : new.directory.is_lost ≡ false →
       HasEntered old.directory (key_number old.hash key) (place_of part) new.directory
 
--- there is room for so many live keys more
-abbrev pub HasRoomFor : Residences → ℕ → Type 0
-HasRoomFor r keys = keys ≤ empty_in r.directory.words
+-- there is room for live keys more of these numbers
+abbrev pub HasRoomFor : Residences → List ℕ → Type 0
+HasRoomFor r numbers = HasRoom r.directory numbers
 
 -- the numbers of the keys of entries
 abbrev pub entry_numbers : HashKey → List Entry → List ℕ

@@ -266,7 +266,7 @@ impl Catalog {
         Ok(())
     }
 
-    /// Puts a run behind all others, for which room was got, with so many entries, all of them live. Takes no memory.
+    /// Puts a run after all others, for which room was got, with so many entries, all of them live. Takes no memory.
     pub(crate) fn push(&mut self, part: u32, entries: usize)
         requires room { vec_len self.old.runs < vec_capacity self.old.runs }
         requires counts { (self.old.entries + entries < 2 ^ 64) × (self.old.live + entries < 2 ^ 64) }

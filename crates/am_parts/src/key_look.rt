@@ -1,6 +1,6 @@
 //! Looks for live keys.
 
-ghost use Rattle.std.specs.Prelude.{◌≡◌, ℕ, false, Some, is_some, IfSome, IfNone};
+ghost use Rattle.std.specs.Prelude.{◌≡◌, ◌<◌, ℕ, false, Some, is_some, IfSome, IfNone};
 ghost use Rattle.am_index.specs.Content.{live_value};
 ghost use Rattle.am_parts.specs.Catalogs.{IsCatalog};
 ghost use Rattle.am_parts.specs.Partitions.{AreWellFormed, IsLiveEntry, LivesInNoRun};
@@ -9,7 +9,7 @@ ghost use Rattle.am_parts.specs.Residences.{LivesInRun, Allows, place_of};
 use crate::catalog::Catalog;
 use crate::residences::PLACES;
 use am_directory::Residence;
-use am_index::PartIndex;
+use am_index::{Hint, PartIndex};
 use am_record::{Entry, Key, Value};
 
 /// The entry of a run that has the key live, by what is known of where it may be.
@@ -27,70 +27,94 @@ pub(crate) fn live_by<I: PartIndex + Drop>(
 {
     match residence {
         Residence::Nowhere => None,
-        Residence::In(place) => live_in_place(index, catalog, place, key),
-        Residence::Unknown => live_in_any_run(index, catalog, key),
+        Residence::In(place) => live_in_place(index, catalog, place, key, Hint::none()).0,
+        Residence::Unknown => live_in_any_run(index, catalog, key).0,
     }
 }
 
-// The same, where it may be live in the runs of a place alone. Where all numbers are below that of places, that is one
-// run. Else the last number of the place is tried first, since fresh runs are asked for most, and then each run of it.
-fn live_in_place<I: PartIndex + Drop>(
+/// The same, where it may be live in the runs of a place alone, and a hint for it. Where all numbers are below that of
+/// places, that is one run. Else the last number of the place is tried first, since fresh runs are asked for most, and
+/// then each other run of it. The hint is for the run that is tried first.
+pub(crate) fn live_in_place<I: PartIndex + Drop>(
     index: &I,
     catalog: &Catalog,
     place: u32,
     key: Key,
-) -> Option<Entry>
+    hint: Hint,
+) -> (Option<Entry>, Hint)
     requires sound { AreWellFormed (I.entries index.now) }
     requires counted { IsCatalog (I.entries index.now) catalog.now }
     requires known { (run : ℕ) → LivesInRun (I.entries index.now) key run → place ≡ place_of run }
-    ensures live { IfSome result (λ e. IsLiveEntry (I.entries index.now) key e) }
-    ensures absent { IfNone result (LivesInNoRun (I.entries index.now) key) }
+    ensures live { IfSome result.0 (λ e. IsLiveEntry (I.entries index.now) key e) }
+    ensures absent { IfNone result.0 (LivesInNoRun (I.entries index.now) key) }
 {
     let last = catalog.last_run();
-    if last < PLACES {
-        return live_at(place, key, index.find(place, key));
-    }
-    let newest = last - (last - place % PLACES) % PLACES;
-    let found = live_at(newest, key, index.find(newest, key));
-    if found.is_some() {
-        return found;
+    let newest = newest_of(last, place);
+    let (slot, in_newest) = index.look(newest, key, hint);
+    let found = live_at(newest, key, slot);
+    if last < PLACES || found.is_some() {
+        return (found, in_newest);
     }
     for run in catalog.runs() {
-        let found = live_in_one(index, run.part, place, key);
+        let (found, in_run) = live_in_other(index, run.part, place, newest, key);
         if found.is_some() {
-            return found;
+            return (found, in_run);
         }
     }
-    None
+    (None, Hint::none())
 }
 
-// The entry of a run that has the key live there. It may be live in the runs of a place alone.
-fn live_in_one<I: PartIndex + Drop>(index: &I, run: u32, place: u32, key: Key) -> Option<Entry>
+// The entry of another run than the newest one that has the key live there, and a hint for it. It may be live in the
+// runs of a place alone.
+fn live_in_other<I: PartIndex + Drop>(
+    index: &I,
+    run: u32,
+    place: u32,
+    newest: u32,
+    key: Key,
+) -> (Option<Entry>, Hint)
     requires sound { AreWellFormed (I.entries index.now) }
     requires known { LivesInRun (I.entries index.now) key run → place ≡ place_of run }
-    ensures live { IfSome result (λ e. IsLiveEntry (I.entries index.now) key e) }
-    ensures none { IfNone result (¬ LivesInRun (I.entries index.now) key run) }
+    requires passed { ¬ LivesInRun (I.entries index.now) key newest }
+    ensures live { IfSome result.0 (λ e. IsLiveEntry (I.entries index.now) key e) }
+    ensures none { IfNone result.0 (¬ LivesInRun (I.entries index.now) key run) }
 {
-    if run % PLACES != place {
-        return None;
+    if run == newest || run % PLACES != place {
+        return (None, Hint::none());
     }
-    live_at(run, key, index.find(run, key))
+    let (slot, there) = index.look(run, key, Hint::none());
+    (live_at(run, key, slot), there)
 }
 
-// The same, where the runs are searched one after another.
-fn live_in_any_run<I: PartIndex + Drop>(index: &I, catalog: &Catalog, key: Key) -> Option<Entry>
+/// The run of a place that is looked at first, where the last run has that number.
+pub(crate) fn newest_of(last: u32, place: u32) -> u32
+    ensures { last < 65536 → result ≡ place }
+{
+    if last < PLACES {
+        return place;
+    }
+    last - (last - place % PLACES) % PLACES
+}
+
+/// The entry of a run that has the key live, and a hint for it, where the runs are searched one after another.
+pub(crate) fn live_in_any_run<I: PartIndex + Drop>(
+    index: &I,
+    catalog: &Catalog,
+    key: Key,
+) -> (Option<Entry>, Hint)
     requires sound { AreWellFormed (I.entries index.now) }
     requires counted { IsCatalog (I.entries index.now) catalog.now }
-    ensures live { IfSome result (λ e. IsLiveEntry (I.entries index.now) key e) }
-    ensures absent { IfNone result (LivesInNoRun (I.entries index.now) key) }
+    ensures live { IfSome result.0 (λ e. IsLiveEntry (I.entries index.now) key e) }
+    ensures absent { IfNone result.0 (LivesInNoRun (I.entries index.now) key) }
 {
     for run in catalog.runs() {
-        let found = live_at(run.part, key, index.find(run.part, key));
+        let (slot, in_run) = index.look(run.part, key, Hint::none());
+        let found = live_at(run.part, key, slot);
         if found.is_some() {
-            return found;
+            return (found, in_run);
         }
     }
-    None
+    (None, Hint::none())
 }
 
 /// The entry of what stands live at a place.

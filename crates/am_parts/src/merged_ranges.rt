@@ -81,11 +81,11 @@ impl MergedRange {
     }
 }
 
-/// The ranges that were merged: the one noted last, and behind it, by rising keys, those in which no run had an entry
+/// The ranges that were merged: the one noted last, and after it, by rising keys, those in which no run had an entry
 /// left.
 ///
 /// A run that was merged in a range never gets an entry there again, unless one is added to it by hand. So a look for
-/// the entries of such a range begins behind it.
+/// the entries of such a range begins after it.
 #[derive(Drop)]
 pub(crate) struct MergedRanges {
     list: Vec<MergedRange>,
@@ -164,7 +164,7 @@ impl MergedRanges {
         }
     }
 
-    // Puts it among those behind the newest.
+    // Puts it among those after the newest.
     fn join(&mut self, merged: MergedRange)
         ensures { SayNoMore (merged ∷ self.old.list.items) self.new.list.items }
     {

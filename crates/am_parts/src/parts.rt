@@ -1,9 +1,10 @@
 //! The partitions of an index, and the changes that keep each key live in at most one of them.
 
-ghost use Rattle.std.specs.Prelude.{◌≡◌, ◌⊎◌, ◌+◌, ◌<◌, ◌≤◌, ◌++◌, [], length, take, drop, reverse, true, false};
+ghost use Rattle.std.specs.Prelude.{◌≡◌, ◌⊎◌, ◌+◌, ◌<◌, ◌≤◌, ◌++◌, ℕ, [], length, take, drop, reverse, true, false};
 ghost use Rattle.std.specs.Prelude.{Some, None, IsSome, is_some, IfSome, IfNone, Err, OnOk, OnErr, vec_capacity};
 ghost use Rattle.std.specs.List.{AllByRecursion};
 ghost use Rattle.std.specs.FinMap.{get};
+ghost use Rattle.am_record.specs.Limits.{max_value_bytes, last_run};
 ghost use Rattle.am_record.specs.Plain.{insert_all, is_rising};
 ghost use Rattle.am_index.specs.Entries.{find, next_any, next_ghost, next_from, after, all_from, all_after};
 ghost use Rattle.am_index.specs.Entries.{entry_at, insert_entry, set_entry, remove_entry};
@@ -13,16 +14,18 @@ ghost use Rattle.am_index.specs.Content.{content, rows_in, live_value, HasConten
 ghost use Rattle.am_parts.specs.Catalogs.{IsCatalog, runs_in};
 ghost use Rattle.am_parts.specs.MergedRanges.{HasNoneBefore};
 ghost use Rattle.am_parts.specs.Partitions.{vacancy_over, NoneLiveIn, AreAllAbsent};
+ghost use Rattle.am_parts.specs.Residences.{LivesInRun, Allows, place_of};
 
 use crate::catalog::Catalog;
 use crate::fault::RunFault;
 use crate::figures::Figures;
-use crate::key_look::{live_at, live_by};
+use crate::key_look::{live_at, live_by, live_in_any_run, live_in_place, newest_of};
 use crate::merged_ranges::MergedRanges;
 use crate::residences::Residences;
 use crate::run_entry::enter_run;
 use crate::way_home::{forget_all, remove_all, settle_all};
-use am_index::{Batch, PartIndex};
+use am_directory::Residence;
+use am_index::{Batch, Hint, PLACES_AT_ONCE, PartIndex};
 use am_record::{Entry, HashKey, Key, NoMemory, Range, Value};
 use std::alloc::Global;
 use std::marker::Model;
@@ -73,6 +76,7 @@ impl<I: PartIndex + Drop> Model for Parts<I> {
     ghost use Rattle.am_parts.specs.MergedRanges.{AreMerged};
     ghost use Rattle.am_parts.specs.Partitions.{Partitions, partitions_code, AreWellFormed};
     ghost use Rattle.am_parts.specs.Residences.{AreResidences, KeepNoneInVain};
+    ghost use Rattle.am_record.specs.Limits.{last_run};
 
     ghost Value = { Partitions };
 
@@ -80,7 +84,7 @@ impl<I: PartIndex + Drop> Model for Parts<I> {
 
     ghost view = { λ p. record { entries = I.entries p.index; runs = p.runs; roomy = I.roomy p.index } };
 
-    ghost invariant = { λ p. AreWellFormed (I.entries p.index) × (p.runs ≤ 4294967294) ×
+    ghost invariant = { λ p. AreWellFormed (I.entries p.index) × (p.runs ≤ last_run) ×
         IsCatalog (I.entries p.index) p.catalog × AreResidences (I.entries p.index) p.residences ×
         AreMerged (I.entries p.index) p.runs p.merged.list.items × HaveRoom (I.entries p.index) (I.roomy p.index) ×
         KeepNoneInVain (I.entries p.index) p.residences };
@@ -113,7 +117,7 @@ impl<I: PartIndex + Drop> Parts<I> {
     /// How many runs were made, 4,294,967,294 at most.
     pub fn runs(&self) -> u32
         ensures runs { result ≡ self.now.runs }
-        ensures limit { result ≤ 4294967294 }
+        ensures limit { result ≤ last_run }
         ensures sound { AreWellFormed self.now.entries }
         ensures room { HaveRoom self.now.entries self.now.roomy }
     {
@@ -139,6 +143,40 @@ impl<I: PartIndex + Drop> Parts<I> {
             return None;
         }
         self.index.find(part, key)
+    }
+
+    /// The value that stands under a partition and key, whether it is a ghost, and a hint for what comes next of that
+    /// place.
+    pub fn look(&self, part: u32, key: Key) -> (Option<(Value, bool)>, Hint)
+        ensures found { result.0 ≡ find self.now.entries part key }
+        ensures sound { AreWellFormed self.now.entries }
+        ensures room { HaveRoom self.now.entries self.now.roomy }
+    {
+        self.index.look(part, key, Hint::none())
+    }
+
+    /// Hints for the keys of the first sixteen records, each for the partition in which the key may be live as far as
+    /// is known: a run, and else the final partition. Where none may be live in a run and the final partition is empty,
+    /// nothing is searched.
+    pub fn hints(&self, pairs: &[(Key, Value)]) -> [Hint; PLACES_AT_ONCE] {
+        let mut places = [(0, Key::least()); PLACES_AT_ONCE];
+        for (place, pair) in places.iter_mut().zip(pairs) {
+            *place = (self.first_part(pair.0), pair.0);
+        }
+        let places = &places[..pairs.len().min(PLACES_AT_ONCE)];
+        if !self.catalog.has_final() && places.iter().all(|place| place.0 == 0) {
+            return [Hint::none(); PLACES_AT_ONCE];
+        }
+        self.index.hints(places)
+    }
+
+    /// Hints for the key in each of the first sixteen of these partitions.
+    pub fn hints_in(&self, parts: &[u32], key: Key) -> [Hint; PLACES_AT_ONCE] {
+        let mut places = [(0, key); PLACES_AT_ONCE];
+        for (place, part) in places.iter_mut().zip(parts) {
+            place.0 = *part;
+        }
+        self.index.hints(&places[..parts.len().min(PLACES_AT_ONCE)])
     }
 
     /// The first entry of the partition at or above the key.
@@ -179,7 +217,7 @@ impl<I: PartIndex + Drop> Parts<I> {
 
     /// Appends the live records of the partition in the range, by rising key, until there are `max`
     /// rows. The caller sees to it that there are no more than these. No memory is taken where there is room for
-    /// `max` rows.
+    /// `max` rows. The hint is for the range's first key.
     ///
     /// # Errors
     /// NoMemory, where memory was refused. Some rows may have been appended.
@@ -189,6 +227,7 @@ impl<I: PartIndex + Drop> Parts<I> {
         range: Range,
         max: u64,
         rows: &mut Vec<(Key, Value)>,
+        hint: Hint,
     ) -> Result<(), NoMemory>
         requires { length rows.old.items ≤ max }
         ensures copied { OnOk result (rows.new.items ≡ take max
@@ -197,12 +236,12 @@ impl<I: PartIndex + Drop> Parts<I> {
         ensures full { OnErr result (vec_capacity rows.old < max) }
         ensures sound { AreWellFormed self.now.entries }
     {
-        self.index.copy_rows(part, range, max, rows)
+        self.index.copy_rows(part, range, max, rows, hint)
     }
 
     /// Appends the live records of the partition in the range, from the highest key down, until there are `max`
     /// rows. The caller sees to it that there are no more than these. No memory is taken where there is room for
-    /// `max` rows.
+    /// `max` rows. The hint is for the range's last key.
     ///
     /// # Errors
     /// NoMemory, where memory was refused. Some rows may have been appended.
@@ -212,6 +251,7 @@ impl<I: PartIndex + Drop> Parts<I> {
         range: Range,
         max: u64,
         rows: &mut Vec<(Key, Value)>,
+        hint: Hint,
     ) -> Result<(), NoMemory>
         requires { length rows.old.items ≤ max }
         ensures copied { OnOk result (rows.new.items ≡ take max
@@ -220,7 +260,7 @@ impl<I: PartIndex + Drop> Parts<I> {
         ensures full { OnErr result (vec_capacity rows.old < max) }
         ensures sound { AreWellFormed self.now.entries }
     {
-        self.index.copy_rows_back(part, range, max, rows)
+        self.index.copy_rows_back(part, range, max, rows, hint)
     }
 
     /// The first partition from that one on that has entries. The index isn't searched.
@@ -257,7 +297,7 @@ impl<I: PartIndex + Drop> Parts<I> {
         ensures absent { IfNone result (get (content self.now.entries) key ≡ None) }
         ensures sound { AreWellFormed self.now.entries }
     {
-        Some(self.live_entry(key)?.part)
+        Some(self.live_entry(key, Hint::none()).0?.part)
     }
 
     /// How many entries there are. The index isn't searched.
@@ -268,18 +308,19 @@ impl<I: PartIndex + Drop> Parts<I> {
         self.catalog.figures()
     }
 
-    /// The entry that has the key live. Of the runs that one alone is searched in which the key may be live.
-    pub fn live_entry(&self, key: Key) -> Option<Entry>
-        ensures live { IfSome result (λ e. IsLiveEntry self.now.entries key e) }
-        ensures absent { IfNone result (get (content self.now.entries) key ≡ None) }
+    /// The entry that has the key live, and a hint for it, or for its place in the final partition. Of the runs that
+    /// one alone is searched in which the key may be live.
+    pub fn live_entry(&self, key: Key, hint: Hint) -> (Option<Entry>, Hint)
+        ensures live { IfSome result.0 (λ e. IsLiveEntry self.now.entries key e) }
+        ensures absent { IfNone result.0 (get (content self.now.entries) key ≡ None) }
         ensures sound { AreWellFormed self.now.entries }
         ensures room { HaveRoom self.now.entries self.now.roomy }
     {
-        let slot = self.find(0, key);
-        if let Some(entry) = live_at(0, key, slot) {
-            return Some(entry);
+        let (vacancy, there) = self.vacancy(key, hint);
+        match vacancy {
+            Vacancy::Taken(entry) => (Some(entry), there),
+            Vacancy::Ghost(_) | Vacancy::Free => (None, there),
         }
-        self.live_in_runs(key)
     }
 
     /// The entry of a run that has the key live.
@@ -291,28 +332,101 @@ impl<I: PartIndex + Drop> Parts<I> {
         live_by(&self.index, &self.catalog, self.residences.of(key), key)
     }
 
-    /// What a new record of the key meets.
-    pub fn vacancy(&self, key: Key) -> Vacancy
-        ensures met { IsVacancy self.now.entries key result }
+    /// What a new record of the key meets, and a hint for its live entry, or for its place in the final partition. What
+    /// is known of where it may be live says where it is looked for first.
+    pub fn vacancy(&self, key: Key, hint: Hint) -> (Vacancy, Hint)
+        ensures met { IsVacancy self.now.entries key result.0 }
         ensures sound { AreWellFormed self.now.entries }
         ensures room { HaveRoom self.now.entries self.now.roomy }
     {
-        let slot = self.find(0, key);
+        match self.residence_of(key) {
+            Residence::Nowhere => self.vacancy_in_final(key, hint),
+            Residence::In(place) => self.vacancy_from_place(place, key, hint),
+            Residence::Unknown => self.vacancy_from_final(key, hint),
+        }
+    }
+
+    // In which run the key may be live. Where no run has entries, the directory isn't asked.
+    fn residence_of(&self, key: Key) -> Residence
+        ensures { (run : ℕ) → LivesInRun self.now.entries key run → Allows result run }
+    {
+        if self.catalog.runs().is_empty() {
+            return Residence::Nowhere;
+        }
+        self.residences.of(key)
+    }
+
+    // The partition that is looked at first for a key.
+    fn first_part(&self, key: Key) -> u32 {
+        match self.residence_of(key) {
+            Residence::In(place) => newest_of(self.catalog.last_run(), place),
+            Residence::Nowhere | Residence::Unknown => 0,
+        }
+    }
+
+    // What stands under a key in the final partition, and a hint for it. Where that is empty, it isn't searched.
+    fn look_in_final(&self, key: Key, hint: Hint) -> (Option<(Value, bool)>, Hint)
+        ensures found { result.0 ≡ find self.now.entries 0 key }
+        ensures sound { AreWellFormed self.now.entries }
+        ensures room { HaveRoom self.now.entries self.now.roomy }
+    {
+        if !self.catalog.has_final() {
+            return (None, Hint::none());
+        }
+        self.index.look(0, key, hint)
+    }
+
+    // What a record meets whose key is live in no run.
+    fn vacancy_in_final(&self, key: Key, hint: Hint) -> (Vacancy, Hint)
+        requires dead { LivesInNoRun self.now.entries key }
+        ensures met { IsVacancy self.now.entries key result.0 }
+        ensures sound { AreWellFormed self.now.entries }
+        ensures room { HaveRoom self.now.entries self.now.roomy }
+    {
+        let (slot, there) = self.look_in_final(key, hint);
         if let Some(entry) = live_at(0, key, slot) {
-            return Vacancy::Taken(entry);
+            return (Vacancy::Taken(entry), there);
         }
-        if let Some(entry) = self.live_in_runs(key) {
-            return Vacancy::Taken(entry);
+        (vacancy_over(&slot), there)
+    }
+
+    // What a record meets whose key may be live in the runs of a place: these come first.
+    fn vacancy_from_place(&self, place: u32, key: Key, hint: Hint) -> (Vacancy, Hint)
+        requires known { (run : ℕ) → LivesInRun self.now.entries key run → place ≡ place_of run }
+        ensures met { IsVacancy self.now.entries key result.0 }
+        ensures sound { AreWellFormed self.now.entries }
+        ensures room { HaveRoom self.now.entries self.now.roomy }
+    {
+        let (found, there) = live_in_place(&self.index, &self.catalog, place, key, hint);
+        if let Some(entry) = found {
+            return (Vacancy::Taken(entry), there);
         }
-        vacancy_over(&slot)
+        self.vacancy_in_final(key, Hint::none())
+    }
+
+    // What a record meets of whose key nothing is known: the final partition comes first, and then the runs.
+    fn vacancy_from_final(&self, key: Key, hint: Hint) -> (Vacancy, Hint)
+        ensures met { IsVacancy self.now.entries key result.0 }
+        ensures sound { AreWellFormed self.now.entries }
+        ensures room { HaveRoom self.now.entries self.now.roomy }
+    {
+        let (slot, in_final) = self.look_in_final(key, hint);
+        if let Some(entry) = live_at(0, key, slot) {
+            return (Vacancy::Taken(entry), in_final);
+        }
+        let (found, in_run) = live_in_any_run(&self.index, &self.catalog, key);
+        match found {
+            Some(entry) => (Vacancy::Taken(entry), in_run),
+            None => (vacancy_over(&slot), in_final),
+        }
     }
 
     /// Adds an entry. The caller sees to it that no entry has its partition and key, and where it
-    /// is live, that its key is live nowhere.
+    /// is live, that its key is live nowhere. The hint is for its place.
     ///
     /// # Errors
     /// NoMemory, where memory was refused; the entries are as before.
-    pub fn add(&mut self, entry: Entry) -> Result<(), NoMemory>
+    pub fn add(&mut self, entry: Entry, hint: Hint) -> Result<(), NoMemory>
         requires absent { find self.old.entries entry.part entry.key ≡ None }
         requires dead { entry.is_ghost ≡ false → get (content self.old.entries) entry.key ≡ None }
         ensures entries { OnOk result (self.new.entries ≡ insert_entry self.old.entries entry) }
@@ -323,34 +437,42 @@ impl<I: PartIndex + Drop> Parts<I> {
     {
         // Read here, the number is known to fit its type.
         prove!(entry.part <= u32::MAX);
-        self.residences.make_room(entry.part, 1)?;
+        self.residences.make_room(entry.part, entry.key)?;
         self.catalog.add(entry.part, entry.is_ghost)?;
         self.merged.add(entry.part);
-        insert_or_forget(&mut self.index, &mut self.catalog, entry)?;
+        insert_or_forget(&mut self.index, &mut self.catalog, entry, hint)?;
         self.residences.add(&entry);
         Ok(())
     }
 
     /// Gets room for a value of so many bytes at an entry. The caller sees to it that it is there. A value of 16 bytes
-    /// or fewer has room everywhere, and where room was got once, it stays until the entry is taken out.
+    /// or fewer has room everywhere, and where room was got once, it stays until the entry is taken out. The hint is
+    /// for the entry.
     ///
     /// # Errors
     /// NoMemory, where such a value had no room there and memory was refused.
-    pub fn make_room(&mut self, part: u32, key: Key, bytes: usize) -> Result<(), NoMemory>
+    pub fn make_room(
+        &mut self,
+        part: u32,
+        key: Key,
+        bytes: usize,
+        hint: Hint,
+    ) -> Result<(), NoMemory>
         requires present { IsSome (find self.old.entries part key) }
-        requires most { bytes ≤ 64 }
+        requires most { bytes ≤ max_value_bytes }
         ensures ok { OnOk result (HasRoom self.new.roomy part key bytes) }
         ensures full { OnErr result (¬ HasRoom self.old.roomy part key bytes) }
         ensures entries { self.new.entries ≡ self.old.entries }
         ensures runs { self.new.runs ≡ self.old.runs }
         ensures rooms { KeepRoom self.old.roomy self.new.roomy self.new.entries }
     {
-        self.index.make_room(part, key, bytes)
+        self.index.make_room(part, key, bytes, hint)
     }
 
     /// Writes over the value of an entry, and whether it is a ghost. The caller sees to it that it is there, that the
     /// value has room there, and where it is to be live, that its key is live in no other partition. Takes no memory.
-    pub fn set(&mut self, part: u32, key: Key, value: Value, is_ghost: bool)
+    /// The hint is for the entry.
+    pub fn set(&mut self, part: u32, key: Key, value: Value, is_ghost: bool, hint: Hint)
         requires present { IsSome (find self.old.entries part key) }
         requires room { HasRoom self.old.roomy part key (length value) }
         requires alone { is_ghost ≡ false → LivesNowhereElse self.old.entries part key }
@@ -359,7 +481,7 @@ impl<I: PartIndex + Drop> Parts<I> {
         ensures runs { self.new.runs ≡ self.old.runs }
         ensures rooms { KeepRoom self.old.roomy self.new.roomy self.new.entries }
     {
-        let was_live = self.index.set(part, key, value, is_ghost);
+        let was_live = self.index.set(part, key, value, is_ghost, hint);
         self.catalog.mark(was_live, is_ghost);
         self.residences.set(part, key, was_live, is_ghost);
     }
@@ -423,7 +545,7 @@ impl<I: PartIndex + Drop> Parts<I> {
 
     /// Counts one more run. The caller sees to it that fewer than 4,294,967,294 were made.
     pub fn count_run(&mut self)
-        requires { self.old.runs < 4294967294 }
+        requires { self.old.runs < last_run }
         ensures runs { self.new.runs ≡ self.old.runs + 1 }
         ensures entries { self.new.entries ≡ self.old.entries }
         ensures rooms { self.new.roomy ≡ self.old.roomy }
@@ -440,7 +562,7 @@ impl<I: PartIndex + Drop> Parts<I> {
     /// Taken, where one of the keys is live in a run; NoMemory, where memory was refused. Entries and runs are as
     /// before.
     pub fn append_run(&mut self, pairs: &[(Key, Value)]) -> Result<(), RunFault>
-        requires room { self.old.runs < 4294967294 }
+        requires room { self.old.runs < last_run }
         requires above { AllByRecursion (λ e. e.part ≤ self.old.runs) self.old.entries }
         requires rising { is_rising pairs.now ≡ true }
         requires in_final { NoneLiveIn self.old.entries 0 pairs.now }
@@ -456,7 +578,7 @@ impl<I: PartIndex + Drop> Parts<I> {
         let part = self.runs + 1;
         self.merged.reserve()?;
         self.catalog.make_room(pairs.len())?;
-        self.residences.make_room(part, pairs.len())?;
+        self.residences.make_room_for(pairs)?;
         enter_run(
             &self.index,
             &self.catalog,
@@ -479,6 +601,7 @@ fn insert_or_forget<I: PartIndex + Drop>(
     index: &mut I,
     catalog: &mut Catalog,
     entry: Entry,
+    hint: Hint,
 ) -> Result<(), NoMemory>
     requires absent { find (I.entries index.old) entry.part entry.key ≡ None }
     requires counted { IsCatalog (insert_entry (I.entries index.old) entry) catalog.old }
@@ -489,7 +612,7 @@ fn insert_or_forget<I: PartIndex + Drop>(
 {
     let part = entry.part;
     let is_live = !entry.is_ghost;
-    let added = index.insert(entry);
+    let added = index.insert(entry, hint);
     if added.is_err() {
         catalog.take(part, is_live);
     }

@@ -1,6 +1,6 @@
 //! In which runs keys are live.
 
-ghost use Rattle.std.specs.Prelude.{◌≡◌, ◌≢◌, ◌+◌, ◌<◌, ℕ, List, [], Some, None, IsSome, is_some, true, false, length};
+ghost use Rattle.std.specs.Prelude.{◌≡◌, ◌≢◌, ◌<◌, ℕ, List, [], ◌∷◌, Some, None, IsSome, is_some, true, false, length};
 ghost use Rattle.std.specs.Prelude.{◌≤◌, get_or, OnOk};
 ghost use Rattle.std.specs.List.{AllByRecursion};
 ghost use Rattle.std.specs.FinMap.{is_sorted};
@@ -9,14 +9,15 @@ ghost use Rattle.am_record.specs.KeyNumber.{key_number, numbers_of};
 ghost use Rattle.am_record.specs.declared.entry.Entry.{Entry};
 ghost use Rattle.am_index.specs.Entries.{find, entry_at, insert_entry, set_entry, remove_entry, IsRising};
 ghost use Rattle.am_index.specs.Content.{live_value};
-ghost use Rattle.am_directory.specs.Tables.{are_free, code_of, label, residence_of};
+ghost use Rattle.am_directory.specs.Tables.{are_free, code_in, label, residence_of};
+ghost use Rattle.am_directory.specs.Room.{AreCounted};
 ghost use Rattle.am_directory.specs.declared.residence.Residence.TheVariants.{Nowhere};
 ghost use Rattle.am_parts.specs.Partitions.{LivesInNoRun};
 ghost use Rattle.am_parts.specs.Residences.{LivesInRun, OneRun, Allows, AreResidences, Tell, LivesWith};
 ghost use Rattle.am_parts.specs.Residences.{HasNoted, HasRoomFor, KeepNoneInVain, KeepNoneWith, OthersStay};
 ghost use Rattle.am_parts.specs.Residences.{entry_numbers};
 
-use am_directory::{Directory, Residence};
+use am_directory::{Directory, LabelCounts, Residence};
 use am_record::{Entry, HashKey, Key, NoMemory, Value};
 use std::alloc::Global;
 
@@ -54,12 +55,12 @@ impl Residences {
         self.directory.residence_of(key.number(self.hash))
     }
 
-    /// Gets room for so many live keys more of the partition. The final one needs none.
+    /// Gets room for a live key more of the partition. The final one needs none.
     ///
     /// # Errors
     /// NoMemory, where memory was refused.
-    pub(crate) fn make_room(&mut self, part: u32, keys: usize) -> Result<(), NoMemory>
-        ensures room { OnOk result (0 < part → HasRoomFor self.new keys) }
+    pub(crate) fn make_room(&mut self, part: u32, key: Key) -> Result<(), NoMemory>
+        ensures room { OnOk result (0 < part → HasRoomFor self.new (key_number self.new.hash key ∷ [])) }
         ensures lost { self.new.directory.is_lost ≡ self.old.directory.is_lost }
         ensures same { (es : List Entry) → AreResidences es self.old → AreResidences es self.new }
         ensures kept { (es : List Entry) → KeepNoneInVain es self.old → KeepNoneInVain es self.new }
@@ -67,12 +68,27 @@ impl Residences {
         if part == 0 {
             return Ok(());
         }
-        self.directory.reserve(keys)
+        let mut counts = LabelCounts::none();
+        counts.add(key.number(self.hash));
+        self.directory.reserve(&counts)
+    }
+
+    /// Gets room for the keys of these records, all of them live in a run to come.
+    ///
+    /// # Errors
+    /// NoMemory, where memory was refused.
+    pub(crate) fn make_room_for(&mut self, pairs: &[(Key, Value)]) -> Result<(), NoMemory>
+        ensures room { OnOk result (HasRoomFor self.new (numbers_of self.new.hash pairs.now)) }
+        ensures lost { self.new.directory.is_lost ≡ self.old.directory.is_lost }
+        ensures same { (es : List Entry) → AreResidences es self.old → AreResidences es self.new }
+        ensures kept { (es : List Entry) → KeepNoneInVain es self.old → KeepNoneInVain es self.new }
+    {
+        self.directory.reserve(&label_counts(self.hash, pairs))
     }
 
     /// Notes an entry that is added, for whose key room was got. Takes no memory.
     pub(crate) fn add(&mut self, entry: &Entry)
-        requires room { 0 < entry.now.part → HasRoomFor self.old 1 }
+        requires room { 0 < entry.now.part → HasRoomFor self.old (key_number self.old.hash entry.now.key ∷ []) }
         ensures added { (es : List Entry) → IsRising es → AreResidences es self.old →
             AreResidences (insert_entry es entry.now) self.new }
         ensures kept { (es : List Entry) → IsRising es → find es entry.now.part entry.now.key ≡ None →
@@ -153,7 +169,7 @@ impl Residences {
         ensures free { result ≡ true → (i : ℕ) (e : Entry) → i < length entries.now →
             residence_of self.now.directory (key_number self.now.hash (get_or entries.now i e).key) ≡ Nowhere }
         ensures none { result ≡ true → (i : ℕ) (e : Entry) → i < length entries.now →
-            code_of self.now.directory.words (label (key_number self.now.hash (get_or entries.now i e).key)) ≡ 0 }
+            code_in self.now.directory (label (key_number self.now.hash (get_or entries.now i e).key)) ≡ 0 }
     {
         let mut numbers = [0; AHEAD];
         for (at, entry) in entries.iter().enumerate() {
@@ -165,13 +181,13 @@ impl Residences {
     /// Notes that the key of a number, for which room was got, is live in the run, unless one of its label may be live
     /// in a run already: then nothing is changed. Answers in which run it may have been live. Takes no memory.
     pub(crate) fn enter_first(&mut self, number: u64, part: u32) -> Residence
-        requires { HasRoomFor self.old 1 }
+        requires { HasRoomFor self.old (number ∷ []) }
         ensures known { result ≡ residence_of self.old.directory number }
         ensures entered { result ≡ Nowhere → (key : OrderedKey) → number ≡ key_number self.old.hash key →
             HasNoted self.old key part self.new }
         ensures same { result ≢ Nowhere → self.new ≡ self.old }
         ensures lost { self.old.directory.is_lost ≡ false → self.new.directory.is_lost ≡ false }
-        ensures room { (keys : ℕ) → HasRoomFor self.old (keys + 1) → HasRoomFor self.new keys }
+        ensures room { (numbers : List ℕ) → HasRoomFor self.old (number ∷ numbers) → HasRoomFor self.new numbers }
     {
         self.directory.enter_first(number, part % PLACES)
     }
@@ -179,11 +195,11 @@ impl Residences {
     /// Notes that the key of a number, for which room was got, is live in the run, where others of its label may be.
     /// Takes no memory.
     pub(crate) fn enter(&mut self, number: u64, part: u32)
-        requires { HasRoomFor self.old 1 }
+        requires { HasRoomFor self.old (number ∷ []) }
         ensures entered { (key : OrderedKey) → number ≡ key_number self.old.hash key →
             HasNoted self.old key part self.new }
         ensures lost { self.old.directory.is_lost ≡ false → self.new.directory.is_lost ≡ false }
-        ensures room { (keys : ℕ) → HasRoomFor self.old (keys + 1) → HasRoomFor self.new keys }
+        ensures room { (numbers : List ℕ) → HasRoomFor self.old (number ∷ numbers) → HasRoomFor self.new numbers }
     {
         self.directory.enter(number, part % PLACES);
     }
@@ -203,4 +219,15 @@ impl Residences {
             self.directory.let_go(forgotten);
         }
     }
+}
+
+// How many keys of records have their labels in each piece of a directory.
+fn label_counts(hash: HashKey, pairs: &[(Key, Value)]) -> LabelCounts
+    ensures { AreCounted (numbers_of hash pairs.now) result }
+{
+    let mut counts = LabelCounts::none();
+    for pair in pairs {
+        counts.add(pair.0.number(hash));
+    }
+    counts
 }

@@ -1,10 +1,10 @@
 //! Entering the keys of a run to come.
 
-ghost use Rattle.std.specs.Prelude.{◌≡◌, ◌<◌, ◌≤◌, ◌+◌, ℕ, List, true, false, length, OnOk, OnErr, IsErr};
+ghost use Rattle.std.specs.Prelude.{◌≡◌, ◌<◌, ◌≤◌, ℕ, List, [], ◌∷◌, true, false, length, OnOk, OnErr, IsErr};
 ghost use Rattle.std.specs.List.{AllByRecursion};
 ghost use Rattle.std.specs.FinMap.{is_sorted};
 ghost use Rattle.am_record.specs.OrderedKey.{key_cmp};
-ghost use Rattle.am_record.specs.KeyNumber.{key_number};
+ghost use Rattle.am_record.specs.KeyNumber.{key_number, numbers_of};
 ghost use Rattle.am_record.specs.declared.entry.Entry.{Entry};
 ghost use Rattle.am_record.specs.declared.hash_key.HashKey.{HashKey};
 ghost use Rattle.am_directory.specs.Tables.{residence_of};
@@ -87,7 +87,7 @@ pub(crate) fn enter_run<I: PartIndex + Drop>(
     requires counted { IsCatalog (I.entries index.now) catalog.now }
     requires told { AreResidences (I.entries index.now) residences.old }
     requires kept { KeepNoneInVain (I.entries index.now) residences.old }
-    requires room { HasRoomFor residences.old (length pairs.now) }
+    requires room { HasRoomFor residences.old (numbers_of residences.old.hash pairs.now) }
     requires sorted { is_sorted key_cmp pairs.now ≡ true }
     ensures entered { OnOk result (Tell (LivesWith (I.entries index.now) part pairs.now 0 (length pairs.now))
         residences.new) }
@@ -137,14 +137,15 @@ fn enter_one<I: PartIndex + Drop>(
     requires number { newcomer.number ≡ key_number residences.old.hash newcomer.key }
     requires known { (run : ℕ) → LivesInRun (I.entries index.now) newcomer.key run →
         Allows (residence_of residences.old.directory newcomer.number) run }
-    requires room { HasRoomFor residences.old 1 }
+    requires room { HasRoomFor residences.old (newcomer.number ∷ []) }
     requires free { newcomer.is_free ≡ true → LivesInNoRun (I.entries index.now) newcomer.key }
     ensures entered { result ≡ true → HasNoted residences.old newcomer.key part residences.new }
     ensures dead { result ≡ true → LivesInNoRun (I.entries index.now) newcomer.key }
     ensures live { result ≡ false → (e : Entry) × IsLiveEntry (I.entries index.now) newcomer.key e }
     ensures same { result ≡ false → residences.new ≡ residences.old }
     ensures lost { residences.old.directory.is_lost ≡ false → residences.new.directory.is_lost ≡ false }
-    ensures room { (keys : ℕ) → HasRoomFor residences.old (keys + 1) → HasRoomFor residences.new keys }
+    ensures room { (numbers : List ℕ) → HasRoomFor residences.old (newcomer.number ∷ numbers) →
+        HasRoomFor residences.new numbers }
 {
     if newcomer.is_free {
         residences.enter(newcomer.number, part);

@@ -12,7 +12,7 @@ ghost use Rattle.am_parts.specs.Residences.{OneRun, AreResidences, KeepNoneInVai
 
 use crate::catalog::Catalog;
 use crate::residences::{AHEAD, Residences};
-use am_index::{Batch, PartIndex};
+use am_index::{Batch, Hint, PartIndex};
 use am_record::{Entry, NoMemory};
 
 // How many rounds that bring one entry alone there are before no others are looked for beside it: those that go into
@@ -134,7 +134,7 @@ fn first_homes(entries: &[Entry]) -> Batch
     homes
 }
 
-// Whether an entry goes behind others that rise.
+// Whether an entry goes after others that rise.
 fn goes_behind(entries: &[Entry], entry: &Entry) -> bool
     ensures exact { result ≡ goes_behind entries.now entry.now }
     ensures rising { result ≡ true → IsRising entries.now → IsRising (entries.now ++ entry.now ∷ []) }
@@ -177,8 +177,8 @@ fn settle<I: PartIndex + Drop>(
         }
         return Ok(());
     }
-    index.make_room(0, entry.key, entry.value.len())?;
-    let was_live = index.set(0, entry.key, entry.value, false);
+    index.make_room(0, entry.key, entry.value.len(), Hint::none())?;
+    let was_live = index.set(0, entry.key, entry.value, false, Hint::none());
     catalog.mark(was_live, false);
     Ok(())
 }

@@ -13,7 +13,7 @@ part_at most text number = cond (number == before_head most text) Head (Piece nu
 abbrev pub bytes_at : ℕ → List ℕ → ℕ → List ℕ
 bytes_at most text number = take most (drop (number * most) text)
 
--- so many parts, one behind another
+-- so many parts, one after another
 abbrev pub first_parts : ℕ → List ℕ → ℕ → List ℕ
 first_parts most text zero = []
 first_parts most text (suc n) = first_parts most text n ++ bytes_at most text n

@@ -2,7 +2,7 @@
 //!
 //! - [`pieces_before_head`], [`part_at`]: an entry's text, cut.
 //! - [`Writer`]: which part of an entry is put now, and under which generation.
-//! - [`parts_are_the_text`]: the parts, one behind another.
+//! - [`parts_are_the_text`]: the parts, one after another.
 //! - [`entries_are_handed_over`]: each entry that counts has the text that its writer handed over.
 //! - [`heads_let_go_of_their_own`]: which pieces a reader lets go.
 //! - [`writers_stay_on_way`]: what is put may also be done late.

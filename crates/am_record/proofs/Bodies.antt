@@ -21,7 +21,7 @@ pub locks_from_push : (ops : List Op) (op : Op) (locks : List Lock) → locks_fr
 locks_from_push [] op locks = refl
 locks_from_push (o ∷ ops) op locks = locks_from_push ops op (with_asked locks (lock_of o))
 
--- a lock that is asked for stands behind those that are held
+-- a lock that is asked for stands after those that are held
 pub asked_behind : (own : List Lock) (asked : Option Lock) → take (length own) (with_asked own asked) ≡ own
 asked_behind own None = take-length own
 asked_behind own (Some asked) = elim (is_covered own asked) as

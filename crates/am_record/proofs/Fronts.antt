@@ -56,7 +56,7 @@ front_below (suc n) (b ∷ bs) =
 less : (x y : ℕ) → x < y → nat_cmp x y ≡ Less
 less x y h = sym (nat_cmp_is x y Less h)
 
--- two bytes, and what stands behind them
+-- two bytes, and what stands after them
 both : (n x y : ℕ) (xs ys : List ℕ) → x < 256 → y < 256 → front_of (suc n) (x ∷ xs) < front_of (suc n) (y ∷ ys) →
     (front_of n xs < front_of n ys → slice_cmp nat_cmp xs ys ≡ Less)
     → (r : Ordering) → MatchOrdering r (x < y) (x ≡ y) (y < x) → ordering_then r (slice_cmp nat_cmp xs ys) ≡ Less

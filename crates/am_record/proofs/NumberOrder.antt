@@ -48,7 +48,7 @@ module _ {X : Type 0} (number : X → ℕ) where
     none_lower [] a = refl
     none_lower (x ∷ xs) a = lower-no x xs (le-ltb (number x) n a.0) ∙ none_lower xs a.1
 
-    -- what stands behind an item that isn't below, or is above
+    -- what stands after an item that isn't below, or is above
     no_lower : (x : X) (xs : List X) → NeverFalls (x ∷ xs) → n ≤ number x → AreNoLower xs
     no_lower x xs r le = AllByRecursion-map (λ y. number x ≤ number y) (λ y. n ≤ number y)
         (λ y more. omega (arith, le, more)) xs r.0
@@ -77,7 +77,7 @@ module _ {X : Type 0} (number : X → ℕ) where
     alike-no : (x : X) (xs : List X) → nat_eq (number x) n ≡ false → alike (x ∷ xs) ≡ 0
     alike-no x xs e = cond-false (nat_eq (number x) n) (1 + alike xs) 0 e
 
-    -- behind the lower ones and those of the number stand higher ones
+    -- after the lower ones and those of the number stand higher ones
     pub higher_last : (xs : List X) → NeverFalls xs → AreNoLower xs → AreHigher (drop (alike xs) xs)
     higher_last [] r a = tt
     higher_last (x ∷ xs) r a =

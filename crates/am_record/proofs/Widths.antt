@@ -1,4 +1,4 @@
--- Padded bytes with fewer zeros behind them, and with more.
+-- Padded bytes with fewer zeros after them, and with more.
 use Rattle.std.proofs.Common.{◌≡◌, ℕ, zero, suc, [], ◌∷◌, ◌+◌, ◌-◌, ◌≤◌, List, ◌++◌, length, take, drop, append_assoc}
 use Rattle.std.proofs.Common.{sym, ap, ◌∙◌, arith}
 use Rattle.std.specs.Prelude.{replicate}
@@ -15,7 +15,7 @@ take-append-ge (suc n) (x ∷ xs) ys le =
     let e : n - length xs ≡ suc n - suc (length xs) = omega arith in
     ap (λ l. x ∷ l) (take-append-ge n xs ys (omega arith) ∙ ap (λ k. xs ++ take k ys) e)
 
--- bytes that begin with some and have zeros behind them
+-- bytes that begin with some and have zeros after them
 padded_of : (room : ℕ) (bytes front : List ℕ) (len : ℕ) → length front ≡ len → len ≤ room → bytes ≡ front ++
     zeros (room - len) → IsPadded room bytes len
 padded_of room bytes front len many short is =

@@ -9,7 +9,7 @@ use Rattle.std.specs.Cmp.Lexicographic.{slice_cmp}
 use Rattle.std.proofs.lemmas.List.{drop_all}
 use Rattle.am_record.specs.KeyWords.{word_at, key_words, AreBytes}
 
--- two numbers, each with a byte more behind it
+-- two numbers, each with a byte more after it
 grown : (a b u v : ℕ) → u < 256 → v < 256 → (s p q : Ordering) → MatchOrdering p (a < b) (a ≡ b) (b < a) →
     MatchOrdering q (u < v) (u ≡ v) (v < u)
     → ordering_then (nat_cmp (a * 256 + u) (b * 256 + v)) s ≡ ordering_then p (ordering_then q s)
@@ -24,7 +24,7 @@ grown a b u v x y s Equal Equal m n = ap (λ r. ordering_then r s)
 grown a b u v x y s Equal Greater m n = ap (λ r. ordering_then r s)
     (sym (nat_cmp_is (a * 256 + u) (b * 256 + v) Greater (omega (arith, m, n))))
 
--- the number of a and the n bytes from i + k on behind it
+-- the number of a and the n bytes from i + k on after it
 abbrev pub spelt : List ℕ → ℕ → ℕ → ℕ → ℕ → ℕ
 spelt bs i a k zero = a
 spelt bs i a k (suc n) = spelt bs i (a * 256 + get_or bs (i + k) 0) (suc k) n
@@ -57,7 +57,7 @@ module _ (xs ys : List ℕ) (bx : AreBytes xs) (by : AreBytes ys) where
       ∙ grown a b u v (bx (i + k)) (by (i + k)) (from (suc (i + k))) (nat_cmp a b) (nat_cmp u v) (ranks a b) (ranks u v)
       ∙ ap (λ r. ordering_then (nat_cmp a b) r) (sym (from_one (i + k) (omega arith) (omega arith)))
 
-  -- a word decides, or else what stands behind it
+  -- a word decides, or else what stands after it
   from_word : (i : ℕ) → i + 8 ≤ length xs → i + 8 ≤ length ys →
       from i ≡ ordering_then (nat_cmp (word_at xs i) (word_at ys i)) (from (i + 8))
   from_word i p q =

@@ -4,6 +4,7 @@ use Rattle.std.proofs.Common.{ap}
 use Rattle.std.specs.Coded.{Coded, code_by, coded×}
 use Rattle.std.specs.Ordering.{is_le}
 use Rattle.am_record.specs.OrderedKey.{OrderedKey, key_cmp, key_code, key_of, key_cmp-itself}
+use Rattle.am_record.specs.Limits.{max_key_bytes}
 
 -- the keys from lo to hi, both included
 pub record Interval : Type 0 where
@@ -36,7 +37,7 @@ point k = record { lo = k; hi = k }
 
 -- the longest key of the highest bytes
 abbrev pub key_greatest : OrderedKey
-key_greatest = key_of (replicate 32 255)
+key_greatest = key_of (replicate max_key_bytes 255)
 
 -- the interval of all keys from one on
 abbrev pub IsFrom : OrderedKey → Interval → Type 0

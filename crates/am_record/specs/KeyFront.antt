@@ -2,8 +2,8 @@
 use Rattle.std.specs.Prelude.{ℕ, zero, suc, ◌+◌, ◌-◌, ◌*◌, ◌^◌, nat_lt, List, [], ◌∷◌, if◌then◌else◌}
 use Rattle.am_record.specs.OrderedKey.{OrderedKey, bytes_of}
 
--- the number of the first n bytes, the first of them the highest, with zeros behind where there are fewer. What is no
--- byte, which no key has, counts as 255 with 255s behind it, so that a lower number is a lower list among all lists
+-- the number of the first n bytes, the first of them the highest, with zeros after where there are fewer. What is no
+-- byte, which no key has, counts as 255 with 255s after it, so that a lower number is a lower list among all lists
 unfoldable pub front_of : ℕ → List ℕ → ℕ
 front_of zero bytes = 0
 front_of (suc n) [] = 0

@@ -14,7 +14,7 @@ IsAllowed active (Abort tx) = active ≡ Some tx
 IsAllowed active (Merge limit) = Unit {0}
 IsAllowed active (Clean range limit) = Unit {0}
 
--- which transaction is active behind a reply
+-- which transaction is active after a reply
 abbrev pub active_after : Option ℕ → Reply → Option ℕ
 active_after active (Begun tx) = Some tx
 active_after active (Committed number) = None

@@ -4,7 +4,7 @@ use Rattle.am_record.specs.OrderedKey.{key_of, bytes_of, bytes_of-key_of}
 use Rattle.am_record.specs.PaddedBytes.{IsPadded, padded_back, zero_filled}
 use Rattle.am_record.specs.declared.key.ShortKey.TheInside.{Inside}
 
--- the bytes with zeros behind them, 16 in all
+-- the bytes with zeros after them, 16 in all
 abbrev pub padded_short : List ℕ → List ℕ
 padded_short bytes = zero_filled 16 bytes
 

@@ -1,6 +1,7 @@
 //! Keys. What a key is made of is known here alone: everybody else has their order.
 
 ghost use Rattle.std.specs.Prelude.{◌≡◌, ◌↔◌, ◌+◌, ◌≤◌, IsSome, IfSome, length};
+ghost use Rattle.am_record.specs.Limits.{max_key_bytes};
 ghost use Rattle.am_record.specs.KeyFront.{key_front};
 ghost use Rattle.am_record.specs.KeyMix.{mix_in, key_mix};
 ghost use Rattle.am_record.specs.KeyNumber.{key_number};
@@ -27,6 +28,7 @@ impl Model for Key {
     ghost use Rattle.std.specs.Prelude.{take, length};
     ghost use Rattle.am_record.specs.OrderedKey.{OrderedKey, key_code, key_of, bytes_of};
     ghost use Rattle.am_record.specs.PaddedBytes.{IsPadded};
+    ghost use Rattle.am_record.specs.Limits.{max_key_bytes};
 
     ghost Value = { OrderedKey };
 
@@ -36,7 +38,7 @@ impl Model for Key {
 
     ghost view = { λ k. key_of (take k.len k.bytes) };
 
-    ghost invariant = { λ k. IsPadded 32 k.bytes k.len };
+    ghost invariant = { λ k. IsPadded max_key_bytes k.bytes k.len };
 
     ghost inverse = { λ k. record { bytes = padded (bytes_of k); len = length (bytes_of k) } };
 
@@ -111,7 +113,7 @@ impl Key {
 
     /// The key of the bytes, where they are at most 32.
     pub fn new(bytes: &[u8]) -> Option<Self>
-        ensures short { IsSome result ↔ (length bytes.now ≤ 32) }
+        ensures short { IsSome result ↔ (length bytes.now ≤ max_key_bytes) }
         ensures value { IfSome result (λ k. k ≡ key_of bytes.now) }
     {
         let len = bytes.len();
@@ -140,19 +142,19 @@ impl Key {
     /// The bytes.
     pub fn bytes(&self) -> &[u8]
         ensures all { result.now ≡ bytes_of self.now }
-        ensures short { length (bytes_of self.now) ≤ 32 }
+        ensures short { length (bytes_of self.now) ≤ max_key_bytes }
     {
         &self.bytes[..self.len as usize]
     }
 
-    /// The bytes with zeros behind them, 32 in all.
+    /// The bytes with zeros after them, 32 in all.
     pub fn padded(&self) -> [u8; 32]
-        ensures { result ≡ zero_filled 32 (bytes_of self.now) }
+        ensures { result ≡ zero_filled max_key_bytes (bytes_of self.now) }
     {
         self.bytes
     }
 
-    /// The first eight bytes as a number, the first of them the highest, with zeros behind a shorter key. Where it is
+    /// The first eight bytes as a number, the first of them the highest, with zeros after a shorter key. Where it is
     /// below another key's, so is the key (`fronts_follow_keys`); where they are equal, it says nothing.
     pub fn front(&self) -> u64
         ensures { result ≡ key_front self.now }

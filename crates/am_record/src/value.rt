@@ -1,6 +1,7 @@
 //! Values of records.
 
 ghost use Rattle.std.specs.Prelude.{◌≡◌, ◌↔◌, ◌≤◌, IsSome, IfSome, length};
+ghost use Rattle.am_record.specs.Limits.{max_value_bytes};
 ghost use Rattle.am_record.specs.PaddedBytes.{zero_filled};
 
 use crate::limits::{MAX_VALUE_LEN, SHORT_LEN};
@@ -16,14 +17,15 @@ pub struct Value {
 impl Model for Value {
     ghost use Rattle.std.specs.Prelude.{ℕ, List, take, length};
     ghost use Rattle.am_record.specs.PaddedBytes.{IsPadded, zero_filled};
+    ghost use Rattle.am_record.specs.Limits.{max_value_bytes};
 
     ghost Value = { List ℕ };
 
     ghost view = { λ v. take v.len v.bytes };
 
-    ghost invariant = { λ v. IsPadded 64 v.bytes v.len };
+    ghost invariant = { λ v. IsPadded max_value_bytes v.bytes v.len };
 
-    ghost inverse = { λ xs. record { bytes = zero_filled 64 xs; len = length xs } };
+    ghost inverse = { λ xs. record { bytes = zero_filled max_value_bytes xs; len = length xs } };
 
     ghost use Rattle.am_record.specs.ValueFields.{fields_of-view};
 
@@ -33,7 +35,7 @@ impl Model for Value {
 impl Value {
     /// The value of the bytes, where they are at most 64.
     pub fn new(bytes: &[u8]) -> Option<Value>
-        ensures short { IsSome result ↔ (length bytes.now ≤ 64) }
+        ensures short { IsSome result ↔ (length bytes.now ≤ max_value_bytes) }
         ensures value { IfSome result (λ v. v ≡ bytes.now) }
     {
         let len = bytes.len();
@@ -51,7 +53,7 @@ impl Value {
     /// The bytes.
     pub fn bytes(&self) -> &[u8]
         ensures all { result.now ≡ self.now }
-        ensures short { length self.now ≤ 64 }
+        ensures short { length self.now ≤ max_value_bytes }
     {
         &self.bytes[..self.len as usize]
     }
@@ -82,9 +84,9 @@ impl Model for ShortValue {
 }
 
 impl Value {
-    /// The bytes with zeros behind them, 64 in all.
+    /// The bytes with zeros after them, 64 in all.
     pub fn padded(&self) -> [u8; 64]
-        ensures { result ≡ zero_filled 64 self.now }
+        ensures { result ≡ zero_filled max_value_bytes self.now }
     {
         self.bytes
     }
@@ -92,7 +94,7 @@ impl Value {
     /// How many bytes it has.
     pub fn len(&self) -> usize
         ensures all { result ≡ length self.now }
-        ensures short { length self.now ≤ 64 }
+        ensures short { length self.now ≤ max_value_bytes }
     {
         self.len as usize
     }

@@ -89,7 +89,7 @@ module _ (m : PlainMap) where
   given_are_kept own [] = sym (append-nil own)
   given_are_kept own (op ∷ ops) = ops_step own op ops (refusal_behind own op) (given_are_kept (own_behind own op) ops)
 
-  -- each line has a reply, whatever comes behind it
+  -- each line has a reply, whatever comes after it
   pub replies_length : (own ops : List Op) → length (replies_behind own m ops) ≡ length ops
   replies_length own [] = refl
   replies_length own (op ∷ ops) = ap (λ n. suc n) (replies_length (own_behind own op) ops)

@@ -5,7 +5,7 @@ use Rattle.am_record.specs.declared.step.Op.{Op}
 use Rattle.am_record.specs.declared.step.Refusal.{Refusal}
 use Rattle.am_replica.specs.Bodies.{refusal_behind, own_by, own_behind, kept_behind, kept}
 
--- no operation is refused behind these and those before it
+-- no operation is refused after these and those before it
 abbrev AreTaken : List Op → List Op → Type 0
 AreTaken own [] = Unit {0}
 AreTaken own (op ∷ ops) = (refusal_behind own op ≡ None) × AreTaken (own ++ op ∷ []) ops

@@ -2,10 +2,9 @@
 use Rattle.std.proofs.Common.{◌≡◌, ◌+◌, List, [], ◌∷◌, ◌++◌, Bool, true, false, cond, refl, sym}
 use Rattle.am_record.specs.declared.step.Reply.{Reply}
 use Rattle.am_replica.specs.declared.block.Block.{Block}
-use Rattle.am_replica.specs.declared.block.Sum.{Sum}
 use Rattle.am_replica.specs.Bodies.{replies, leaves}
 use Rattle.am_replica.specs.Ordered.{Ordered, Stands, Fails, Commit, commit_of, stands, after_all, committed, AreInTurn}
-use Rattle.am_replica.specs.Ordered.{left_by}
+use Rattle.am_replica.specs.Ordered.{left_by, Sum}
 use Rattle.am_replica.proofs.Given.{given_are_answers}
 
 module _ (digest : List Reply → Sum) where

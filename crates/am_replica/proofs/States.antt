@@ -6,9 +6,8 @@ use Rattle.std.proofs.lemmas.List.Elements.{filter-append}
 use Rattle.am_record.specs.Plain.{PlainMap, Draft, fresh, draft_after, answers_on, answers}
 use Rattle.am_record.specs.declared.step.Op.{Op}
 use Rattle.am_record.specs.declared.step.Reply.{Reply}
-use Rattle.am_replica.specs.declared.block.Sum.{Sum}
 use Rattle.am_replica.specs.Bodies.{kept, replies, is_given, given}
-use Rattle.am_replica.specs.Ordered.{same_sum}
+use Rattle.am_replica.specs.Ordered.{Sum, same_sum}
 use Rattle.am_replica.specs.Told.{TransactionState, still_stands, untold, NoCollision, WasTold}
 use Rattle.am_replica.specs.Told.{IsOneState}
 use Rattle.am_replica.proofs.Given.{given_are_answers, first_replies}

@@ -8,7 +8,7 @@ use Rattle.am_record.specs.declared.step.Reply.{Reply}
 use Rattle.am_record.specs.declared.step.Reply.TheVariants.{Refused}
 use Rattle.am_record.specs.declared.step.Refusal.{Refusal}
 
--- the refusal that is due behind the operations that were answered, by nothing but these: no run is one too many
+-- the refusal that is due after the operations that were answered, by nothing but these: no run is one too many
 abbrev pub refusal_behind : List Op → Op → Option Refusal
 refusal_behind own op =
     or_else (refusal_before_lock true (length own) false op)
@@ -30,7 +30,7 @@ kept_behind own (op ∷ ops) = kept_behind (own_behind own op) ops
 abbrev pub kept : List Op → List Op
 kept ops = kept_behind [] ops
 
--- what an operation is answered: its refusal, and else what the map answers to it behind the others
+-- what an operation is answered: its refusal, and else what the map answers to it after the others
 abbrev pub reply_by : Option Refusal → Reply → Reply
 reply_by None reply = reply
 reply_by (Some why) reply = Refused why

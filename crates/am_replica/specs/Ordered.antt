@@ -1,9 +1,9 @@
 -- What the log's blocks come to, one after another, on a plain map.
-use Rattle.std.specs.Prelude.{◌≡◌, ℕ, ◌+◌, ◌==◌, List, [], ◌∷◌, ◌++◌, Bool, ◌&&◌, cond, take, map}
+use Rattle.std.specs.Prelude.{◌≡◌, ℕ, ◌+◌, List, [], ◌∷◌, ◌++◌, Bool, nat_eq, cond, take, map}
+use Rattle.std.specs.Cmp.Lexicographic.{pointwise}
 use Rattle.am_record.specs.Plain.{PlainMap, answers, left}
 use Rattle.am_record.specs.declared.step.Op.{Op}
 use Rattle.am_record.specs.declared.step.Reply.{Reply}
-use Rattle.am_replica.specs.declared.block.Sum.{Sum}
 use Rattle.am_replica.specs.declared.block.Block.{Block}
 use Rattle.am_replica.specs.declared.block.Outcome.{Outcome}
 use Rattle.am_replica.specs.declared.block.Outcome.TheVariants.{Committed, Conflict}
@@ -26,8 +26,12 @@ seen Conflict = Fails
 abbrev pub seen_all : List Outcome → List Seen
 seen_all outcomes = map seen outcomes
 
+-- a digest of answers: its 32 bytes
+abbrev pub Sum : Type 0
+Sum = List ℕ
+
 abbrev pub same_sum : Sum → Sum → Bool
-same_sum a b = (a.high == b.high) && (a.low == b.low)
+same_sum a b = pointwise nat_eq a b
 
 -- whether the block's first lines are answered as they were, as far as the digest says
 abbrev pub stands : (List Reply → Sum) → Block → PlainMap → Bool

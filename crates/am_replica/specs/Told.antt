@@ -1,15 +1,13 @@
 -- What a transaction was told before it was put into the log.
 use Rattle.std.specs.Prelude.{◌≡◌, length, List, ◌++◌, Bool, true, false, take, drop, refl}
-use Rattle.std.specs.Coded.{Coded, code_by, coded×, coded_bool, coded_list}
+use Rattle.std.specs.Coded.{Coded, code_by, coded×, coded_ℕ, coded_bool, coded_list}
 use Rattle.am_record.specs.contracts.step.Op as op
-use Rattle.am_replica.specs.contracts.block.Sum as sum
 use Rattle.am_record.specs.Plain.{PlainMap, answers}
 use Rattle.am_record.specs.declared.step.Op.{Op}
 use Rattle.am_record.specs.declared.step.Op.TheVariants.{Get, Scan, ScanBack, Lock, Mark, Back}
 use Rattle.am_record.specs.declared.step.Reply.{Reply}
-use Rattle.am_replica.specs.declared.block.Sum.{Sum}
 use Rattle.am_replica.specs.Bodies.{kept, replies, given}
-use Rattle.am_replica.specs.Ordered.{same_sum}
+use Rattle.am_replica.specs.Ordered.{Sum, same_sum}
 
 -- its lines that were answered, the digest of their answers, and whether an earlier answer no longer came
 pub record TransactionState : Type 0 where
@@ -19,10 +17,11 @@ pub record TransactionState : Type 0 where
 
 abbrev pub transaction_code : Coded TransactionState
 transaction_code = code_by (List Op × (Sum × Bool))
-    (coded× (coded_list op.the_row.coded) (coded× sum.the_row.coded coded_bool)) (λ t. (t.ops, (t.digest, t.is_over)))
+    (coded× (coded_list op.the_row.coded) (coded× (coded_list coded_ℕ) coded_bool))
+    (λ t. (t.ops, (t.digest, t.is_over)))
     (λ p. record { ops = p.0; digest = p.1.0; is_over = p.1.1 }) (λ _. refl)
 
--- whether the answered lines are answered as they were, as far as the digest says, with others behind them
+-- whether the answered lines are answered as they were, as far as the digest says, with others after them
 abbrev pub still_stands : (List Reply → Sum) → TransactionState → List Op → PlainMap → Bool
 still_stands digest t lines m = same_sum (digest (given (take (length t.ops) (replies (t.ops ++ lines) m)))) t.digest
 
@@ -42,7 +41,7 @@ untold t lines m = drop (length t.ops) (replies (t.ops ++ lines) m)
 abbrev pub NoCollision : (List Reply → Sum) → List Reply → List Reply → Type 0
 NoCollision digest a b = same_sum (digest a) (digest b) ≡ true → a ≡ b
 
--- A transaction was told this: they are as many answers as it has lines, no line of which is refused behind those
+-- A transaction was told this: they are as many answers as it has lines, no line of which is refused after those
 -- before it, with that digest.
 pub record WasTold (digest : List Reply → Sum) (t : TransactionState) (told : List Reply) : Type 0 where
   pub kept : kept t.ops ≡ t.ops

@@ -5,19 +5,12 @@ ghost use Rattle.am_replica.specs.Ordered.{same_sum};
 
 use am_record::{Op, Reply};
 
-/// A digest of answers: 256 bits.
-#[derive(Clone, Copy, Debug)]
-pub struct Sum {
-    pub high: u128,
-    pub low: u128,
-}
-
 /// A transaction's lines, how many of them were answered before it was put, and the digest of those answers.
 #[derive(Drop)]
 pub struct Block {
     pub ops: Vec<Op>,
     pub told: usize,
-    pub digest: Sum,
+    pub digest: [u8; 32],
 }
 
 /// What became of a block.
@@ -29,11 +22,9 @@ pub enum Outcome {
     Conflict,
 }
 
-impl Sum {
-    /// Whether it is the same digest.
-    pub fn is(self, other: Sum) -> bool
-        ensures { result ≡ same_sum self other }
-    {
-        self.high == other.high && self.low == other.low
-    }
+// Whether it is one digest.
+pub(crate) fn is_same(digest: &[u8; 32], other: &[u8; 32]) -> bool
+    ensures { result ≡ same_sum digest.now other.now }
+{
+    digest == other
 }

@@ -12,7 +12,7 @@ mod machine;
 mod replica;
 mod transaction;
 
-pub use block::{Block, Outcome, Sum};
+pub use block::{Block, Outcome};
 pub use laws::{committed_blocks_are_serial, reads_leave_the_map, told_answers_are_one_states};
 pub use machine::{Digest, Machine};
 pub use replica::Replica;

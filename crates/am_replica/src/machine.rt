@@ -3,10 +3,9 @@
 ghost use Rattle.std.specs.Prelude.{◌≡◌, List, IfOk, OnOk};
 ghost use Rattle.am_record.specs.Plain.{PlainMap};
 ghost use Rattle.am_record.specs.declared.step.Reply.{Reply as TheReply};
-ghost use Rattle.am_replica.specs.declared.block.Sum.{Sum as TheSum};
 ghost use Rattle.am_replica.specs.Bodies.{replies, leaves, given};
+ghost use Rattle.am_replica.specs.Ordered.{Sum};
 
-use crate::block::Sum;
 use am_record::{NoMemory, Op, Reply};
 
 /// A store with one transaction at a time.
@@ -48,8 +47,12 @@ pub trait Machine {
 
 /// Digests of answers. One that refuses a line isn't among them.
 pub trait Digest {
-    ghost digest_of: { List TheReply → TheSum };
+    ghost digest_of: { List TheReply → Sum };
 
-    fn digest(&self, replies: &[Reply]) -> Sum
-        ensures { result ≡ digest_of (given replies.now) };
+    /// The digest.
+    ///
+    /// # Errors
+    /// NoMemory, where memory was refused.
+    fn digest(&self, replies: &[Reply]) -> Result<[u8; 32], NoMemory>
+        ensures { IfOk result (λ sum. sum ≡ digest_of (given replies.now)) };
 }

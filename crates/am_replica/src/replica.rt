@@ -3,7 +3,7 @@
 ghost use Rattle.std.specs.Prelude.{◌≡◌, ◌+◌, ◌<◌, ◌^◌, length, IfOk, OnOk};
 ghost use Rattle.am_replica.specs.Ordered.{Ordered, seen, outcome, after, outcomes, after_all, seen_all};
 
-use crate::block::{Block, Outcome};
+use crate::block::{Block, Outcome, is_same};
 use crate::machine::{Digest, Machine};
 use am_record::NoMemory;
 use std::alloc::Global;
@@ -32,7 +32,8 @@ impl<M: Machine + Drop, D: Digest + Drop> Replica<M, D> {
     {
         let replies = self.machine.run(&block.ops)?;
         let told = block.told.min(replies.len());
-        if !self.digest.digest(&replies[..told]).is(block.digest) {
+        let sum = self.digest.digest(&replies[..told])?;
+        if !is_same(&sum, &block.digest) {
             self.machine.abort()?;
             return Ok(Outcome::Conflict);
         }

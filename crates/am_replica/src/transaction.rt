@@ -5,7 +5,7 @@ ghost use Rattle.am_replica.specs.declared.transaction.TrialFault.TheVariants.{N
 ghost use Rattle.am_replica.specs.Bodies.{is_given, given_ops};
 ghost use Rattle.am_replica.specs.Told.{still_stands, behind_lines, untold};
 
-use crate::block::{Block, Sum};
+use crate::block::{Block, is_same};
 use crate::machine::{Digest, Machine};
 use am_record::{NoMemory, Op, Reply};
 use std::alloc::{AllocError, Global};
@@ -40,7 +40,7 @@ impl From<AllocError> for TrialFault {
 #[derive(Drop)]
 pub struct Transaction {
     ops: Vec<Op>,
-    digest: Sum,
+    digest: [u8; 32],
     is_over: bool,
 }
 
@@ -56,14 +56,17 @@ impl Model for Transaction {
 
 impl Transaction {
     /// One that was told nothing.
-    pub fn new<D: Digest>(alloc: Global, digest: &D) -> Transaction
-        ensures { result ≡ record { ops = []; digest = D.digest_of []; is_over = false } }
+    ///
+    /// # Errors
+    /// NoMemory, where memory was refused.
+    pub fn new<D: Digest>(alloc: Global, digest: &D) -> Result<Transaction, NoMemory>
+        ensures { IfOk result (λ t. t ≡ record { ops = []; digest = D.digest_of []; is_over = false }) }
     {
-        Transaction {
+        Ok(Transaction {
             ops: Vec::new(alloc),
-            digest: digest.digest(&[]),
+            digest: digest.digest(&[])?,
             is_over: false,
-        }
+        })
     }
 
     /// The answers to further lines, where the store stands now. All earlier answers have to come again. Nothing of it
@@ -96,12 +99,15 @@ impl Transaction {
         let mut replies = machine.run(&all)?;
         machine.abort()?;
         let told = self.ops.len();
-        if !digest.digest(&replies[..told]).is(self.digest) {
+        let sum = digest.digest(&replies[..told])?;
+        if !is_same(&sum, &self.digest) {
             self.is_over = true;
             return Err(TrialFault::Conflict);
         }
-        self.ops = kept_ops(alloc, &all, &replies)?;
-        self.digest = digest.digest(&replies);
+        let own = kept_ops(alloc, &all, &replies)?;
+        let sum = digest.digest(&replies)?;
+        self.ops = own;
+        self.digest = sum;
         Ok(replies.split_off(told)?)
     }
 
@@ -128,7 +134,7 @@ impl Transaction {
     }
 }
 
-// The operations, and the lines behind them.
+// The operations, and the lines after them.
 fn with_lines(alloc: Global, ops: &[Op], lines: &[Op]) -> Result<Vec<Op>, NoMemory>
     ensures { IfOk result (λ all. all.items ≡ ops.now ++ lines.now) }
 {

@@ -50,7 +50,7 @@ stays (k ∷ own) range q m d apart inside h =
     stays own range q m (draft_after k.op d) parts.1 inside
     (still_has k.op d q m here.0 (unwritten range k.op q inside here.1) h)
 
--- an operation that reads none of their keys makes as many runs behind them
+-- an operation that reads none of their keys makes as many runs after them
 pub made_alike : (own : List OwnAnswer) (op : Op) (lock : Lock) (m : PlainMap) (reply : Reply) →
     lock_of op ≡ Some lock →
     is_orderly op ≡ true → list_all (λ (k : OwnAnswer). is_apart lock.range k.op) own ≡ true →

@@ -83,7 +83,7 @@ fn may_write_in(asked: Option<Lock>, range: &Range) -> bool
     }
 }
 
-// Whether a key of the pairs is new behind these operations. They are tried on the map, above a savepoint.
+// Whether a key of the pairs is new after these operations. They are tried on the map, above a savepoint.
 fn leave_new(
     committed: &mut Plain,
     own: &[OwnAnswer],

@@ -141,7 +141,7 @@ fronts_all rs (o ∷ os) all =
     ∙ sym (map-append key_front (keys_of run) (keys_of others))
     ∙ ap fronts_of (sym (keys_of-append run others))
 
--- the keys of the orders' records that have one of the fronts, one order behind another
+-- the keys of the orders' records that have one of the fronts, one order after another
 abbrev pub keys_by_orders : Records → List ℕ → List (Vec Spot Global) → List OrderedKey
 keys_by_orders rs fronts os =
     flat_map (λ (o : Vec Spot Global). with_fronts fronts (keys_of (named rs o.items))) os

@@ -60,7 +60,7 @@ module _ (follow : (a b : OrderedKey) → key_front a < key_front b → key_cmp 
   below_named s (t ∷ ts) is are below =
       (lower follow rs s t is are.0 below.0, below_named s ts is are.1 below.1)
 
-  -- spots that rise, and behind them others with higher fronts that do
+  -- spots that rise, and after them others with higher fronts that do
   sorted_both : (ss ts : List Spot) → AllByRecursion (IsSpot rs) ss → AllByRecursion (IsSpot rs) ts →
       is_sorted key_cmp (named rs ss) ≡ true → is_sorted key_cmp (named rs ts) ≡ true →
       AllByRecursion (LiesBelow ts) ss → is_sorted key_cmp (named rs (ss ++ ts)) ≡ true

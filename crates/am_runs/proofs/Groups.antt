@@ -46,7 +46,7 @@ module _ {X : Type 0} (number : X → ℕ) where
       (λ other. subst All (sym (none_more n x xs other)) tt)
       (cases_Bool (nat_eq (number x) n))
 
-  -- and all behind it a higher one
+  -- and all after it a higher one
   pub above_group : (n : ℕ) (xs : List X) → AllByRecursion (λ x. n ≤ number x) xs → Climbs xs →
       AllByRecursion (λ x. n < number x) (drop (alike n xs) xs)
   above_group n [] from climbs = tt

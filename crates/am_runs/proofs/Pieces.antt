@@ -75,7 +75,7 @@ cut_whole runs (r ∷ rest) none h = absurd (omega (arith, none))
 
 -- ---- pieces by their places
 
--- a piece, and what comes behind it
+-- a piece, and what comes after it
 pub piece_behind : (rs : Records) (from more : ℕ) → drop from rs ≡ piece rs from (from + more) ++ drop (from + more) rs
 piece_behind rs from more =
     sym (take-append-drop more (drop from rs))

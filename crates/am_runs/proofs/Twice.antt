@@ -161,7 +161,7 @@ tie_is_least all k l ks h tie =
           (cases_Bool (eq_by_cmp key_cmp other k));
     }
 
--- the first of those that are left is not the next, so it stands nowhere behind it
+-- the first of those that are left is not the next, so it stands nowhere after it
 both_ways_le : (o : Ordering) → is_le o ≡ true → is_le (ordering_reverse o) ≡ true → is_eq o ≡ true
 both_ways_le Less h g = absurd (true≢false (sym g))
 both_ways_le Equal h g = refl

@@ -43,7 +43,7 @@ abbrev pub AreRunsOf : ℕ → Records → List Records → Type 0
 AreRunsOf n records [] = records ≡ []
 AreRunsOf n records (run ∷ runs) = IsRunOf (take n records) run × AreRunsOf n (drop n records) runs
 
--- the records of the runs, one run behind another
+-- the records of the runs, one run after another
 abbrev pub records_of : List Records → Records
 records_of [] = []
 records_of (run ∷ runs) = run ++ records_of runs

@@ -19,7 +19,7 @@ pub record AreShared (ns shared : List ℕ) : Type 0 where
   pub rising : AllPairs ◌<◌ shared
   pub twice : (n : ℕ) → (is_among n shared ≡ true) ↔ (2 ≤ times_of n ns)
 
--- the fronts of the orders' spots, one order behind another
+-- the fronts of the orders' spots, one order after another
 abbrev pub fronts_in : List (Vec Spot Global) → List ℕ
 fronts_in orders = flat_map (λ (o : Vec Spot Global). map (λ (s : Spot). s.front) o.items) orders
 

@@ -22,7 +22,7 @@ pub record AreSpots (records : Records) (spots : List Spot) : Type 0 where
 abbrev pub named : Records → List Spot → Records
 named records spots = map (λ (s : Spot). get_or records s.place (key_least, [])) spots
 
--- the spots, each behind the key of its record
+-- the spots, each after the key of its record
 abbrev pub keyed_by : Records → List Spot → List (OrderedKey × Spot)
 keyed_by records spots = map (λ (s : Spot). ((get_or records s.place (key_least, [])).0, s)) spots
 
@@ -32,7 +32,7 @@ keys_among keyed = map (λ (k : OrderedKey × Spot). k.0) keyed
 abbrev pub spots_among : List (OrderedKey × Spot) → List Spot
 spots_among keyed = map (λ (k : OrderedKey × Spot). k.1) keyed
 
--- the spots behind their keys, these in order
+-- the spots after their keys, these in order
 pub record IsByKey (records : Records) (spots : List Spot) (keyed : List (OrderedKey × Spot)) : Type 0 where
   pub same : IsPermutation (keyed_by records spots) keyed
   pub sorted : IsSortedByKey (λ (k : OrderedKey × Spot). k.0) key_cmp keyed
@@ -46,7 +46,7 @@ pub record IsOrder (records : Records) (spots : List Spot) : Type 0 where
   pub are : AreSpots records spots
   pub rising : is_rising (named records spots) ≡ true
 
--- the spots of the group stand behind those that were there, by their records' strictly rising keys
+-- the spots of the group stand after those that were there, by their records' strictly rising keys
 pub record IsAdded (records : Records) (before group after : List Spot) : Type 0 where
   pub order : List Spot
   pub all : after ≡ before ++ order

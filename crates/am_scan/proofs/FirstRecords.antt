@@ -104,7 +104,7 @@ module _ (back : Bool) where
       below_passed key test h rows)
       (cases_Bool (test row.0))
 
-  -- one record, and behind it those that pass a narrower test
+  -- one record, and after it those that pass a narrower test
   pub first_row : (t u : OrderedKey → Bool) (m : PlainMap) (key : OrderedKey) (value : List ℕ) →
       get m key ≡ Some value →
       t key ≡ true

@@ -210,7 +210,7 @@ module _ (back : Bool) where
           (none_by room (rows part range) found (omega (arith, some)) read none));
     }
 
-    -- ---- the row behind a head
+    -- ---- the row after a head
 
     module _ (range : Interval) (h : Stand) (inside : within range h.key ≡ true) where
       abbrev behind_it : Interval
@@ -219,7 +219,7 @@ module _ (back : Bool) where
       ends : (not_above (first_key back range) h.key ≡ true) × (not_above h.key (last_key back range) ≡ true)
       ends = to_ends back range h.key inside
 
-      -- of the range it has what is behind it
+      -- of the range it has what is after it
       behind_inside : (key : OrderedKey) → cmp h.key key ≡ Less → within range key ≡ true →
           within behind_it key ≡ true
       behind_inside key behind there = from_rest back range h.key key (ap is_le behind) (to_ends back range key there).1

@@ -12,7 +12,7 @@ use Rattle.am_record.specs.declared.entry.Entry.{Entry}
 use Rattle.am_index.specs.Content.{rows_in, IsLiveAt}
 use Rattle.am_scan.specs.Directions.{cmp_in, cmp_in-total, as_read, rest_of}
 
--- where a head stands: in a partition, at the record, with the others read behind it, and whether those are all
+-- where a head stands: in a partition, at the record, with the others read after it, and whether those are all
 pub record Stand : Type 0 where
   pub part : ℕ
   pub key : OrderedKey
@@ -47,14 +47,14 @@ head_cmp back g h = cmp_in back h.key g.key
 pub head_cmp-total : (back : Bool) → IsTotalOrder (head_cmp back)
 head_cmp-total back = back_total (on_total (λ (h : Stand). h.key) (cmp_in-total back))
 
--- the rows of its partition from its key to the range's end begin with it and what was read behind it, and are no more
+-- the rows of its partition from its key to the range's end begin with it and what was read after it, and are no more
 -- where that is all
 pub record HasReadOn (back : Bool) (es : List Entry) (range : Interval) (h : Stand) : Type 0 where
   pub further : Records
   pub follows : as_read back (rows_in es h.part (rest_of back range h.key)) ≡ (h.key, h.value) ∷ (h.read ++ further)
   pub ended : IsTrue h.is_all → further ≡ []
 
--- and something was read behind it, unless that is all
+-- and something was read after it, unless that is all
 pub record HasReadSome (back : Bool) (es : List Entry) (range : Interval) (h : Stand) : Type 0 where
   pub reads : HasReadOn back es range h
   pub at_end : h.read ≡ [] → IsTrue h.is_all
@@ -72,7 +72,7 @@ pub record IsFirstHead (back : Bool) (es : List Entry) (range : Interval) (part 
   pub none_before : (key : OrderedKey) (value : List ℕ) → within range key ≡ true → cmp_in back key h.key ≡ Less →
       ¬ IsLiveAt es part key value
 
--- the new head stands at the one that is read next behind the old
+-- the new head stands at the one that is read next after the old
 pub record IsNextHead (back : Bool) (es : List Entry) (range : Interval) (old new : Stand) : Type 0 where
   pub head : IsHead back es range new
   pub in_part : new.part ≡ old.part
@@ -80,7 +80,7 @@ pub record IsNextHead (back : Bool) (es : List Entry) (range : Interval) (old ne
   pub none_between : (key : OrderedKey) (value : List ℕ) → cmp_in back old.key key ≡ Less →
       cmp_in back key new.key ≡ Less → ¬ IsLiveAt es old.part key value
 
--- there is none behind it
+-- there is none after it
 pub record HasNoNext (back : Bool) (es : List Entry) (range : Interval) (h : Stand) : Type 0 where
   pub none : (key : OrderedKey) (value : List ℕ) → cmp_in back h.key key ≡ Less → within range key ≡ true →
       ¬ IsLiveAt es h.part key value

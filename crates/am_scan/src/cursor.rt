@@ -140,7 +140,7 @@ impl<'a, I: PartIndex + Drop, D: Direction> Cursor<'a, I, D> {
             return Ok(false);
         }
         let (part, rest) = head.rest(self.range);
-        D::copy_rows(self.parts, part, rest, max, rows)?;
+        D::copy_rows(self.parts, part, rest, max, rows, head.hint())?;
         Ok(true)
     }
 }

@@ -5,7 +5,7 @@ ghost use Rattle.am_record.specs.Interval.{within};
 ghost use Rattle.am_index.specs.Content.{rows_in};
 ghost use Rattle.am_scan.specs.Directions.{order_in, as_read, rest_of};
 
-use am_index::PartIndex;
+use am_index::{Hint, PartIndex};
 use am_parts::Parts;
 use am_record::{Key, NoMemory, Range, Value};
 use std::cmp::Ordering;
@@ -26,8 +26,12 @@ pub trait Direction {
         requires { within range key ≡ true }
         ensures { result ≡ rest_of is_back range key };
 
+    /// The key of a range with which it is begun.
+    fn first_key(range: Range) -> Key;
+
     /// Appends the live records of the partition in the range, as they are read, until there are `max` rows. The
-    /// caller sees to it that there are no more than these. No memory is taken where there is room for `max` rows.
+    /// caller sees to it that there are no more than these. No memory is taken where there is room for `max` rows. The
+    /// hint is for the key with which the range is begun.
     ///
     /// # Errors
     /// NoMemory, where memory was refused. Some rows may have been appended.
@@ -37,6 +41,7 @@ pub trait Direction {
         range: Range,
         max: u64,
         rows: &mut Vec<(Key, Value)>,
+        hint: Hint,
     ) -> Result<(), NoMemory>
         requires { length rows.old.items ≤ max }
         ensures copied { OnOk result (rows.new.items ≡ take max
@@ -67,14 +72,19 @@ impl Direction for Forward {
         rest
     }
 
+    fn first_key(range: Range) -> Key {
+        range.lo()
+    }
+
     fn copy_rows<I: PartIndex + Drop>(
         parts: &Parts<I>,
         part: u32,
         range: Range,
         max: u64,
         rows: &mut Vec<(Key, Value)>,
+        hint: Hint,
     ) -> Result<(), NoMemory> {
-        parts.copy_rows(part, range, max, rows)
+        parts.copy_rows(part, range, max, rows, hint)
     }
 }
 
@@ -94,13 +104,18 @@ impl Direction for Back {
         rest
     }
 
+    fn first_key(range: Range) -> Key {
+        range.hi()
+    }
+
     fn copy_rows<I: PartIndex + Drop>(
         parts: &Parts<I>,
         part: u32,
         range: Range,
         max: u64,
         rows: &mut Vec<(Key, Value)>,
+        hint: Hint,
     ) -> Result<(), NoMemory> {
-        parts.copy_rows_back(part, range, max, rows)
+        parts.copy_rows_back(part, range, max, rows, hint)
     }
 }

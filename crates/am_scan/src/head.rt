@@ -1,4 +1,4 @@
-//! The head of a partition: the record at which a cursor stands in it, and those that were read behind it.
+//! The head of a partition: the record at which a cursor stands in it, and those that were read after it.
 
 ghost use Rattle.std.specs.Prelude.{◌≡◌, ◌<◌, ◌≤◌, ◌↔◌, true, false, length, take, IfOk, IfSome, IfNone, IsTrue};
 ghost use Rattle.std.specs.Prelude.{vec_capacity};
@@ -8,14 +8,14 @@ ghost use Rattle.am_index.specs.Content.{rows_in};
 ghost use Rattle.am_scan.specs.Directions.{as_read, rest_of};
 
 use crate::direction::Direction;
-use am_index::{PartIndex, rows_follow};
+use am_index::{Hint, PartIndex, rows_follow};
 use am_parts::Parts;
 use am_record::{Key, NoMemory, Range, Value, fronts_follow_keys};
 use std::alloc::Global;
 use std::cmp::Ordering;
 use std::marker::{Model, PhantomData};
 
-/// Where a cursor stands in one partition, seen as the record there and those read behind it. The head whose key is
+/// Where a cursor stands in one partition, seen as the record there and those read after it. The head whose key is
 /// read first is the greatest, so that a heap gives it first.
 #[derive(Drop)]
 pub(crate) struct Head<D: Direction> {
@@ -24,10 +24,12 @@ pub(crate) struct Head<D: Direction> {
     front: u64,
     // Records that follow one another in the partition, ghosts left out.
     rows: Vec<(Key, Value)>,
-    // How many of them were passed: it stands at the one behind these.
+    // How many of them were passed: it stands at the one after these.
     passed: usize,
     // Nothing of the partition in the range follows them: they are fewer than there was room for.
     is_all: bool,
+    // Where it began: mostly in the leaf in which it goes on, or near it.
+    hint: Hint,
     direction: PhantomData<D>,
 }
 
@@ -59,6 +61,7 @@ impl<D: Direction> Head<D> {
         range: Range,
         part: u32,
         room: usize,
+        hint: Hint,
     ) -> Result<Option<Head<D>>, NoMemory>
         requires room { 2 ≤ room }
         requires rising { IsRising parts.now.entries }
@@ -70,7 +73,7 @@ impl<D: Direction> Head<D> {
     {
         rows_follow();
         let mut rows = Vec::with_capacity(alloc, room)?;
-        let is_all = read_rows::<D, I>(parts, part, range, &mut rows);
+        let is_all = read_rows::<D, I>(parts, part, range, &mut rows, hint);
         if rows.is_empty() {
             return Ok(None);
         }
@@ -80,6 +83,7 @@ impl<D: Direction> Head<D> {
             rows,
             passed: 0,
             is_all,
+            hint,
             direction: PhantomData,
         }))
     }
@@ -96,6 +100,11 @@ impl<D: Direction> Head<D> {
         ensures { result ≡ (self.now.key, self.now.value) }
     {
         self.rows[self.passed]
+    }
+
+    /// Where it began.
+    pub(crate) fn hint(&self) -> Hint {
+        self.hint
     }
 
     /// Its partition, and what is read of a range from its record on. The caller sees to it that its record is one of
@@ -126,7 +135,7 @@ impl<D: Direction> Head<D> {
         true
     }
 
-    // Reads on, where nothing was read behind the record and something may follow it.
+    // Reads on, where nothing was read after the record and something may follow it.
     fn look_ahead<I: PartIndex + Drop>(&mut self, parts: &Parts<I>, range: Range)
         requires reads { HasReadOn D.is_back parts.now.entries range self.old }
         requires inside { within range self.old.key ≡ true }
@@ -140,7 +149,7 @@ impl<D: Direction> Head<D> {
         }
         let (part, rest) = self.rest(range);
         self.passed = 0;
-        self.is_all = read_rows::<D, I>(parts, part, rest, &mut self.rows);
+        self.is_all = read_rows::<D, I>(parts, part, rest, &mut self.rows, self.hint);
     }
 }
 
@@ -150,6 +159,7 @@ fn read_rows<D: Direction, I: PartIndex + Drop>(
     part: u32,
     range: Range,
     rows: &mut Vec<(Key, Value)>,
+    hint: Hint,
 ) -> bool
     ensures rows { rows.new.items ≡ take (vec_capacity rows.old)
         (as_read D.is_back (rows_in parts.now.entries part range)) }
@@ -159,7 +169,7 @@ fn read_rows<D: Direction, I: PartIndex + Drop>(
 {
     let room = rows.capacity();
     rows.clear();
-    let Ok(()) = D::copy_rows(parts, part, range, room as u64, rows) else {
+    let Ok(()) = D::copy_rows(parts, part, range, room as u64, rows, hint) else {
         unreachable!()
     };
     rows.len() < room

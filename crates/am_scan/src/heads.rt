@@ -8,6 +8,7 @@ ghost use Rattle.am_parts.specs.Partitions.{AreWellFormed};
 ghost use Rattle.am_scan.specs.Heads.{head_cmp};
 ghost use Rattle.am_scan.specs.Cursors.{AreAllHeads, IsFirstBeside};
 
+use crate::ahead::Ahead;
 use crate::direction::Direction;
 use crate::head::Head;
 use am_index::PartIndex;
@@ -34,9 +35,11 @@ pub(crate) fn heads_of<D: Direction, I: PartIndex + Drop>(
 {
     let first_run = parts.first_run(range);
     let mut heads = BinaryHeap::new(alloc);
+    let mut ahead = Ahead::none();
     let mut from = 0;
     while let Some(part) = parts.next_part(from) {
-        let first = Head::<D>::first(alloc, parts, range, part, room)?;
+        let hint = ahead.hint(parts, part, first_run, D::first_key(range));
+        let first = Head::<D>::first(alloc, parts, range, part, room, hint)?;
         if let Some(head) = first {
             heads.push(head)?;
         }

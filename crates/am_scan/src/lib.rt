@@ -6,6 +6,7 @@
 //! without a heap. The direction is a parameter of the types.
 #![tactic(auto)]
 
+mod ahead;
 mod cursor;
 mod direction;
 mod head;

@@ -9,7 +9,7 @@ ghost use Rattle.am_scan.specs.Directions.{as_read};
 
 use crate::Cursor;
 use crate::direction::{Back, Direction, Forward};
-use am_index::{PartIndex, rows_follow};
+use am_index::{Hint, PartIndex, rows_follow};
 use am_parts::Parts;
 use am_record::{Key, NoMemory, Range, Value};
 use std::alloc::Global;
@@ -72,7 +72,7 @@ fn read_rows<D: Direction, I: PartIndex + Drop>(
         return merge_rows::<D, I>(alloc, parts, range, max);
     };
     let mut rows = Vec::new(alloc);
-    D::copy_rows(parts, part, range, max, &mut rows)?;
+    D::copy_rows(parts, part, range, max, &mut rows, Hint::none())?;
     Ok(rows)
 }
 

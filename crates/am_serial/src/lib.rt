@@ -5,6 +5,7 @@
 //! traces of this machine.
 #![tactic(auto)]
 
+ghost use Rattle.am_record.specs.Limits.{max_runs};
 ghost use Rattle.std.specs.Prelude.{◌↔◌, ℕ, []};
 ghost use Rattle.am_serial.specs.Trace.{Trace, IsSerial, IsSteady, AtEachMoment};
 ghost use Rattle.am_serial.specs.Machine.{State, Runs, start, after_run};
@@ -56,7 +57,7 @@ pub fn steps_follow()
 
 /// The machine makes the worked traces with savepoints, and not the one in which a Back is forgotten.
 pub fn worked_savepoints()
-    ensures nested { Runs 65535 start nested_marks }
-    ensures locks_stay { Runs 65535 start back_keeps_locks }
-    ensures forgotten { ¬ (Runs 65535 start back_forgotten) }
+    ensures nested { Runs max_runs start nested_marks }
+    ensures locks_stay { Runs max_runs start back_keeps_locks }
+    ensures forgotten { ¬ (Runs max_runs start back_forgotten) }
 {}

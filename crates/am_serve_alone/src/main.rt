@@ -1,6 +1,7 @@
 //! The program `amserve alone`: one session over standard input and output, on a store of its own.
 #![tactic(auto)]
 
+ghost use Rattle.am_record.specs.Limits.{max_limit};
 ghost use Rattle.std.specs.Prelude.{◌≤◌};
 
 mod ending;
@@ -29,7 +30,7 @@ fn alone<R: AllocGlobal + Input + Print + Eprint + Clock + RandomSource + Wait>(
     rt: &R,
     auto: u64,
 ) -> io::Result<ExitCode>
-    requires { auto ≤ 64 }
+    requires { auto ≤ max_limit }
 {
     // Pieces of one answer, as the rows of a scan, go out together.
     let Ok(writer) = BufWriter::new(rt.alloc(), io::writer(rt)) else {

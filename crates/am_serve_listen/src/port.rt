@@ -1,4 +1,4 @@
-//! Serving where connections come to: what comes before the sessions, and behind them.
+//! Serving where connections come to: what comes before the sessions, and after them.
 //!
 //! Each part has a frame of its own, beside that of the words, so that none is large.
 

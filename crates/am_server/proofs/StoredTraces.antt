@@ -1,4 +1,4 @@
--- All that a keeper took, and the rest behind it.
+-- All that a keeper took, and the rest after it.
 use Rattle.std.proofs.Common.{◌≡◌, ℕ, List, [], ◌++◌, length, sym, ap, ◌∙◌, subst, length-append}
 use Rattle.am_serial.specs.Trace.{Trace}
 use Rattle.am_latch.specs.Receipts.{SeatState}

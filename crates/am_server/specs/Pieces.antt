@@ -6,7 +6,7 @@ use Rattle.am_trace_writer.specs.Events.{add_count}
 use Rattle.am_server.specs.ServerTraces.{IsTraceOf}
 use Rattle.am_server.specs.declared.server_trace.ServerTrace.{ServerTrace}
 
--- The latch was closed: behind what was taken before stood a rest, which was passed on and counted, and all of it is
+-- The latch was closed: after what was taken before stood a rest, which was passed on and counted, and all of it is
 -- the trace of these seats.
 pub record HasClosed {T : Type 0} (took : T → Trace → T → Type 0) (most_runs : ℕ) (seats : List SeatState)
     (before : Trace) (a : T) (m : ℕ) (s : ServerTrace T) : Type 0 where

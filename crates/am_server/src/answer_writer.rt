@@ -8,7 +8,7 @@ use std::io::{self, ErrorKind, Write};
 use std::net::TcpStream;
 
 /// Writes to a connection. Where waits are limited, the system ends a write that has waited for so long: it tells what
-/// went out before, or fails. No write waits again behind that, not even the one of what is left at the end.
+/// went out before, or fails. No write waits again after that, not even the one of what is left at the end.
 #[derive(Drop)]
 pub(crate) struct AnswerWriter<'a> {
     stream: &'a TcpStream,

@@ -126,7 +126,7 @@ fn serve_each<'a, L: LatchName + Send + Sync, R: Threads + Wait + Clock + Sync>(
     );
 }
 
-// Closes the latch, of which these are all seats, and has what it kept passed on too: behind all that was, all is.
+// Closes the latch, of which these are all seats, and has what it kept passed on too: after all that was, all is.
 fn close_all<L: LatchName, T: PieceTaker + Drop, V: Watcher + Drop>(
     latch: Latch<L>,
     seats: Vec<Seat<L>>,

@@ -108,7 +108,7 @@ answered_heard means waited new line false h response own may a q =
     either_way true = refl
     either_way false = refl
 
--- behind one by which the session didn't end itself it goes on
+-- after one by which the session didn't end itself it goes on
 pub goes_on_behind : (e : Exchange) (on : Bool) → is_answered e ≡ true → on ≡ not (ends_itself e.1) → on ≡ true →
     goes_on e ≡ true
 goes_on_behind e on answered is goes = ap (λ (b : Bool). b && not (ends_itself e.1)) answered ∙ sym is ∙ goes
@@ -118,7 +118,7 @@ pub ended_behind : (response : Response) (on : Bool) → on ≡ not (ends_itself
     ends_itself response ≡ true
 ended_behind response on is ends = not-false _ (sym is ∙ ends)
 
--- the merge behind it
+-- the merge after it
 pub merged_once : {B : Type 0} (means : BackendMeaning B) (auto : ℕ) (old new : SessionPoint B) (reply : Reply) →
     (auto == 0) ≡ false → means.steps old.0 (Merge auto) reply new.0 → new.1 ≡ staged_after old.1 reply →
     (events : Trace) × MergesAfter means auto old events new

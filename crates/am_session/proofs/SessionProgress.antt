@@ -258,7 +258,7 @@ module _ {S K B : Type 0} (comes : S → List ℕ → Type 0) (holds : K → Opt
     does = rests_there b0 b' t.exchanges (Some e) (t.events ++ its) (said_all s0 s k0 k b0 b w t (Some e) its b' a);
   }
 
-  -- one exchange more, and the merge behind it
+  -- one exchange more, and the merge after it
   rests_more : (s0 s : S) (k0 k : K) (b0 b answered merging : SessionPoint B) (w : List ℕ) (e : Exchange)
       (own merged : Trace) (t : So s0 k0 b0 w s k b) → AnswersLine means b e own answered →
       MergesAfter means auto answered merged merging → Rests means auto b0 (t.exchanges ++ e ∷ []) None

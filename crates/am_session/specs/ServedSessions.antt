@@ -23,7 +23,7 @@ IsEnded bytes = (more : List ℕ) → lines_of (bytes ++ more) ≡ lines_of byte
 abbrev pub is_answered : Exchange → Bool
 is_answered e = cond (is_lapsed e.1) true (not (is_quit (parsed e.0)))
 
--- whether a session goes on behind an exchange: it ends at QUIT, and where it ended itself
+-- whether a session goes on after an exchange: it ends at QUIT, and where it ended itself
 abbrev pub goes_on : Exchange → Bool
 goes_on e = is_answered e && not (ends_itself e.1)
 
@@ -36,7 +36,7 @@ pub record AsksFor (read : List ℕ) (exchanges : List Exchange) (rest : List Li
   pub are : lines_of read ≡ asked exchanges ++ rest
   pub on : GoOn exchanges
 
--- By these bytes were taken, by these given, behind which BYE was said, and whether nothing more comes; by exchanges,
+-- By these bytes were taken, by these given, after which BYE was said, and whether nothing more comes; by exchanges,
 -- the one whose answer was torn, if one was, and their events; and by where a session is left that did nothing.
 module _ (took gave parted : List ℕ → Type 0) (nothing_comes : Type 0)
     (answers : List Exchange → Option Exchange → Trace → Type 0) (untouched : Type 0) where
@@ -44,7 +44,7 @@ module _ (took gave parted : List ℕ → Type 0) (nothing_comes : Type 0)
   abbrev pub AreWhole : List ℕ → List ℕ → Type 0
   AreWhole read waiting = IsEnded read ⊎ ((waiting ≡ []) × nothing_comes)
 
-  -- QUIT was read, and this was written for it; the bytes behind it were not answered
+  -- QUIT was read, and this was written for it; the bytes after it were not answered
   pub record QuitThere (farewell : List ℕ) : Type 0 where
     pub read : List ℕ
     pub waiting : List ℕ
@@ -59,7 +59,7 @@ module _ (took gave parted : List ℕ → Type 0) (nothing_comes : Type 0)
     pub parts : parted (texts exchanges)
     pub does : answers exchanges None events
 
-  -- by the last line that was read the session ended itself; the bytes behind it were not answered
+  -- by the last line that was read the session ended itself; the bytes after it were not answered
   pub record EndedItselfThere : Type 0 where
     pub read : List ℕ
     pub waiting : List ℕ

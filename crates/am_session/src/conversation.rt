@@ -119,8 +119,8 @@ fn respond_to<W: Wait + Clock, B: Backend>(
 }
 
 /// Answers what was heard, and sends the answers on, unless a whole line is at hand and is answered at once: answers to
-/// lines that came together go out together. Others' steps may be kept out behind it only where the session goes on at
-/// once in its transaction. Whether the session goes on: behind the END of itself it doesn't.
+/// lines that came together go out together. Others' steps may be kept out after it only where the session goes on at
+/// once in its transaction. Whether the session goes on: after the END of itself it doesn't.
 pub(crate) fn answer<W: Wait + Clock, K: Sink, B: Backend>(
     rt: &W,
     alloc: Global,

@@ -3,9 +3,9 @@
 /// How a session ended. A transaction that was active is aborted at each of these.
 #[derive(Clone, Copy, Debug, PartialEq, Eq)]
 pub enum End {
-    /// QUIT was answered. What came behind it was not.
+    /// QUIT was answered. What came after it was not.
     Quit,
-    /// END of the session's own number was answered. What came behind it was not.
+    /// END of the session's own number was answered. What came after it was not.
     EndedItself,
     /// The source has no further bytes, and each line was answered.
     EndOfInput,

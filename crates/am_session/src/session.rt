@@ -1,5 +1,6 @@
 //! A session over any backend, to its end.
 
+ghost use Rattle.am_record.specs.Limits.{max_limit};
 ghost use Rattle.std.specs.Prelude.{◌≡◌, ◌+◌, ◌^◌, ◌<◌, ◌≤◌, [], false, Option, Some, None};
 ghost use Rattle.am_session.specs.ServedSessions.{Served, read_failures, write_failures, IsSentOn};
 ghost use Rattle.am_serial.specs.Trace.{Trace};
@@ -118,7 +119,7 @@ fn leave<W: Wait, B: Backend>(rt: &W, backend: &mut B, active: Option<u64>)
 ///
 /// The backend takes the steps of the lines, the merges and the last Abort; each line that is written is the text of a
 /// line's fault, or of the reply to its step, however the source cuts its bytes. Nothing is unsent whenever the source
-/// is asked ([`AnsweredSource`]). BYE is said behind all answers, while nothing is active ([`PartingSink`]).
+/// is asked ([`AnsweredSource`]). BYE is said after all answers, while nothing is active ([`PartingSink`]).
 pub fn serve<W: Wait + Clock, K: PartingSink<B>, S: AnsweredSource<K>, B: Backend>(
     rt: &W,
     alloc: Global,
@@ -131,7 +132,7 @@ pub fn serve<W: Wait + Clock, K: PartingSink<B>, S: AnsweredSource<K>, B: Backen
     requires sink_countable { K.failures sink.old < 2 ^ 63 }
     requires sent { K.pending sink.old ≡ false }
     requires idle { B.means.active backend.old ≡ None }
-    requires limit { auto ≤ 64 }
+    requires limit { auto ≤ max_limit }
     ensures served { Served S.comes K.holds K.parts B.means auto source.old sink.old backend.old source.new
         sink.new backend.new result }
     ensures idle { B.means.active backend.new ≡ None }

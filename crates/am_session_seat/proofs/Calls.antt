@@ -1,4 +1,4 @@
--- What is open in a seat behind a call.
+-- What is open in a seat after a call.
 use Rattle.std.proofs.Common.{◌≡◌, ℕ, List, [], ◌∷◌, ◌++◌, Bool, true, false, Option, Some, None, length, refl, sym, ap}
 use Rattle.std.proofs.Common.{subst}
 use Rattle.std.proofs.Common.{◌∙◌, ◌-◌, arith, length-append}
@@ -26,7 +26,7 @@ open_behind : (o : Option ℕ) (rs : List Receipt) (r : Receipt) → open_from o
 open_behind o [] r = refl
 open_behind o (q ∷ rs) r = open_behind (open_after o (change q.step q.reply)) rs r
 
--- what is open behind a reply is what the reply says
+-- what is open after a reply is what the reply says
 opened_by : (o : Option ℕ) (st : Step) (r : Reply) → IsReplyTo st r → open_after o (change st r) ≡ active_after o r
 opened_by o st (Begun t') f = ap (λ (s : Step). open_after o (change s (Begun t'))) f
 opened_by o st (Committed c') f = ap (λ (s : Step). open_after o (change s (Committed c'))) f.1
@@ -58,7 +58,7 @@ pub aborts : (st : Step) (r : Reply) → IsEnded st r → EndsAbort st r
 aborts (Abort t) r h = abort_ends t r (h t refl)
 aborts step r h = tt
 
--- the last receipt behind a commit is of it
+-- the last receipt after a commit is of it
 last_one : (rs : List Receipt) (r : Receipt) → slice_get (rs ++ r ∷ []) (length (rs ++ r ∷ []) - 1) ≡ Some r
 last_one rs r =
     ap (λ (n : ℕ). slice_get (rs ++ r ∷ []) n) (omega (arith, length-append rs (r ∷ []))) ∙

@@ -79,7 +79,7 @@ joined a b c es fs h k = record {
       (sym (filter-append (λ (e : Step × Reply). is_stored e.1) es fs));
 }
 
--- the receipts behind a call, whether it is stored or not
+-- the receipts after a call, whether it is stored or not
 behind : (s s' : SeatState) (st : Step) (r : Reply) (b : Bool) → MatchBool b (GetsReceipt s st r s') (s' ≡ s)
     → (s'.number ≡ s.number) × (taken s'.receipts ≡ taken s.receipts ++ cond b ((st, r) ∷ []) [])
 behind s s' st r true h = (

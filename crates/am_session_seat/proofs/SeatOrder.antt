@@ -135,7 +135,7 @@ latch_numbers : (placed : List SessionSeatState) → seat_numbers (latch_seats p
 latch_numbers [] = refl
 latch_numbers (p ∷ ps) = ap (λ (l : List ℕ). p.seat.number ∷ l) (latch_numbers ps)
 
--- the seats that were closed are those of the sessions, and behind them those of the workers
+-- the seats that were closed are those of the sessions, and after them those of the workers
 pub joined_seats : (all taken before worked : List SeatState) (placed : List SessionSeatState) → all ≡ taken ++ worked →
     taken ≡ before ++ latch_seats placed → before ≡ [] → all ≡ latch_seats placed ++ worked
 joined_seats all taken before worked placed joined sat none = joined ∙

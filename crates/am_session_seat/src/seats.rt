@@ -63,7 +63,7 @@ pub fn assign_seats<'a, L: LatchName>(
     Ok((session_seats, worker_seats))
 }
 
-/// The latch's seats of the sessions, behind what stands there. Takes no memory.
+/// The latch's seats of the sessions, after what stands there. Takes no memory.
 pub fn take_seats<'a, L: LatchName>(all: &mut Vec<Seat<L>>, session_seats: Vec<SessionSeat<'a, L>>)
     requires { vec_len all.old + length session_seats.items ≤ vec_capacity all.old }
     ensures seats { all.new.items ≡ all.old.items ++ latch_seats session_seats.entry.items }

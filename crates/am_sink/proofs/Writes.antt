@@ -1,4 +1,4 @@
--- Bytes that are written, one piece behind another.
+-- Bytes that are written, one piece after another.
 use Rattle.std.proofs.Common.{◌≡◌, ℕ, ◌+◌, List, [], ◌++◌, length, take, append_assoc, Option, Some, None, inl, inr, ap}
 use Rattle.std.proofs.Common.{Result, Ok, Err, sym, subst, ◌∙◌, arith, append-nil}
 use Rattle.std.proofs.lemmas.Result.{IfOk-from_err, on_ok_weaker, on_err_weaker}

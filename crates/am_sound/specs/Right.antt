@@ -42,7 +42,7 @@ abbrev pub IsMaintained : Store → Trace → Type 0
 IsMaintained s [] = Unit {0}
 IsMaintained s (e ∷ trace) = MaintainedAt s e.0 e.1 × IsMaintained (after_step s e.0 e.1) trace
 
--- behind each beginning of the trace each key is live in one place at most, and the content is the committed map with
+-- after each beginning of the trace each key is live in one place at most, and the content is the committed map with
 -- the active transactions' writes
 abbrev pub IsPlacedAtEachMoment : Trace → Type 0
 IsPlacedAtEachMoment trace =

@@ -8,7 +8,7 @@ abbrev pub onto : ℕ → List (List ℕ) → List (List ℕ)
 onto c [] = (c ∷ []) ∷ []
 onto c (line ∷ lines) = (c ∷ line) ∷ lines
 
--- what stands between the LFs; behind the last one only where it isn't empty
+-- what stands between the LFs; after the last one only where it isn't empty
 abbrev pub pieces_of : List ℕ → List (List ℕ)
 pieces_of [] = []
 pieces_of (c ∷ bytes) = cond (c == 10) ([] ∷ pieces_of bytes) (onto c (pieces_of bytes))
@@ -37,7 +37,7 @@ abbrev pub has_lf : List ℕ → Bool
 has_lf [] = false
 has_lf (c ∷ bytes) = cond (c == 10) true (has_lf bytes)
 
--- The bytes begin with a whole line, its LF with it, and these stand behind it.
+-- The bytes begin with a whole line, its LF with it, and these stand after it.
 abbrev pub CutsLine : List ℕ → Option (List ℕ) → List ℕ → Type 0
 CutsLine bytes line rest = (taken : List ℕ) × (bytes ≡ taken ++ rest)
     × ((more : List ℕ) → lines_of (taken ++ more) ≡ line ∷ lines_of more)

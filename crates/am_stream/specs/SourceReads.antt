@@ -2,7 +2,7 @@
 use Rattle.std.specs.Prelude.{◌≡◌, ℕ, List, [], ◌∷◌, ◌++◌, max}
 
 -- `comes` says of a source which bytes may still come. From `old` these bytes were taken, and `new` was left:
--- whatever may come from `new`, came from `old` behind them.
+-- whatever may come from `new`, came from `old` after them.
 abbrev pub Took : {S : Type 0} → (S → List ℕ → Type 0) → S → List ℕ → S → Type 0
 Took comes old taken new = (rest : List ℕ) → comes new rest → comes old (taken ++ rest)
 

@@ -27,7 +27,7 @@ pub proper-is_record_text : (r : RecordText) → IsRecordText r → is_record_te
 proper-is_record_text r h = and_from (is_key_text r.0) (is_value_text r.1) ((is_key_text-Decides r.0).1 h.0)
     ((is_value_text-Decides r.1).1 h.1)
 
--- the first = of a record's field stands behind its key
+-- the first = of a record's field stands after its key
 place : (key value : List ℕ) → list_all is_key_byte key ≡ true → position_or_len is_equals (key ++ (0x3D ∷ value)) ≡
     length key
 place [] value h = refl

@@ -28,11 +28,11 @@ word_text NoMark = codes "NOMARK"
 word_text Busy = codes "BUSY"
 word_text Error = codes "ERR"
 
--- a word with something behind it
+-- a word with something after it
 abbrev pub spaced : ReplyWord → List ℕ
 spaced word = word_text word ++ codes " "
 
--- what a refusal has behind ERR; a lock that conflicts is told by BUSY and its holder
+-- what a refusal has after ERR; a lock that conflicts is told by BUSY and its holder
 abbrev pub refusal_code : Refusal → List ℕ
 refusal_code (refusal.Busy holder) = []
 refusal_code refusal.NoSuchTx = codes "NOTX"

@@ -57,7 +57,7 @@ impl ReplyWord {
     }
 }
 
-/// What a refusal has behind ERR. It is empty for a lock that conflicts, whose word is BUSY.
+/// What a refusal has after ERR. It is empty for a lock that conflicts, whose word is BUSY.
 pub fn refusal_code(refusal: Refusal) -> &'static [u8]
     ensures code { result.now ≡ refusal_code refusal }
     ensures short { length result.now ≤ 6 }

@@ -37,7 +37,7 @@ impl Text {
         empty.then(bytes)
     }
 
-    /// The text with these bytes behind it.
+    /// The text with these bytes after it.
     pub fn then(mut self, bytes: &[u8]) -> Self
         requires { length self + length bytes.now ≤ 128 }
         ensures { result ≡ self ++ bytes.now }
@@ -48,7 +48,7 @@ impl Text {
         self
     }
 
-    /// The text with a number behind it.
+    /// The text with a number after it.
     pub fn then_number(self, number: u64) -> Self
         requires { length self + 20 ≤ 128 }
         ensures text { result ≡ self ++ decimal number }
@@ -57,7 +57,7 @@ impl Text {
         self.then(Buffer::new().format(number).as_bytes())
     }
 
-    /// The text with a key behind it.
+    /// The text with a key after it.
     pub fn then_key(self, key: Key) -> Self
         requires { length self + 32 ≤ 128 }
         ensures text { result ≡ self ++ printed_key key }

@@ -10,7 +10,7 @@ use am_text::words_are_fields;
 use am_trace_text::{ReadFault, Version};
 use std::alloc::Global;
 
-/// The event of the first line, and the lines behind it. The line's fields are cut first and then read.
+/// The event of the first line, and the lines after it. The line's fields are cut first and then read.
 ///
 /// # Errors
 /// Bad, where the text begins with no line of an event; or NoMemory, where memory was refused.

@@ -28,7 +28,7 @@ impl GrowingFile {
         }
     }
 
-    /// Writes a piece behind the others.
+    /// Writes a piece after the others.
     ///
     /// # Errors
     /// Failed, where it could not be written whole.

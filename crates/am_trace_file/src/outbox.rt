@@ -87,7 +87,7 @@ impl Outbox {
         self.ring();
     }
 
-    // Lets a piece wait behind the others, or writes it where no thread does.
+    // Lets a piece wait after the others, or writes it where no thread does.
     fn put<R: Wait + Eprint>(&self, rt: &R, piece: &[u8]) -> Result<(), Failed> {
         if self.is_failed() {
             return Err(Failed);
@@ -138,7 +138,7 @@ impl Outbox {
         (pieces, waiting.is_closed)
     }
 
-    /// Takes the file and writes the pieces as they come, until no further one does. Behind one that can't be written
+    /// Takes the file and writes the pieces as they come, until no further one does. After one that can't be written
     /// none is.
     #[inline(never)]
     pub fn write_out<R: Wait + Clock + Eprint>(&self, rt: &R) {

@@ -15,7 +15,7 @@ use arrayvec::ArrayVec;
 /// So many digits always fit 64 bits.
 const SHORT: usize = 19;
 
-/// The event of the first line, which is of version 2, and the lines behind it. It knows the shapes that come most
+/// The event of the first line, which is of version 2, and the lines after it. It knows the shapes that come most
 /// often: any other line, right or wrong, is to be read by its fields.
 #[inline(always)]
 pub fn front_event(text: &[u8]) -> Option<((Step, Reply), &[u8])>
@@ -33,7 +33,7 @@ pub fn front_event(text: &[u8]) -> Option<((Step, Reply), &[u8])>
     }
 }
 
-// What stands behind the word of a Get, and the lines behind it.
+// What stands after the word of a Get, and the lines after it.
 #[inline(always)]
 fn front_get(text: &[u8]) -> Option<((Step, Reply), &[u8])>
     ensures { IfSome result (λ p. IsEvent Version.Two p.0
@@ -48,7 +48,7 @@ fn front_get(text: &[u8]) -> Option<((Step, Reply), &[u8])>
     Some(((Step::Do(tx, Op::Get(key)), reply), rest))
 }
 
-// What stands behind the word of an Insert, and the lines behind it.
+// What stands after the word of an Insert, and the lines after it.
 #[inline(always)]
 fn front_insert(text: &[u8]) -> Option<((Step, Reply), &[u8])>
     ensures { IfSome result (λ p. IsEvent Version.Two p.0
@@ -63,7 +63,7 @@ fn front_insert(text: &[u8]) -> Option<((Step, Reply), &[u8])>
     Some(((Step::Do(tx, Op::Insert(key, value)), reply), rest))
 }
 
-// What stands behind the word of a Replace, and the lines behind it.
+// What stands after the word of a Replace, and the lines after it.
 #[inline(always)]
 fn front_replace(text: &[u8]) -> Option<((Step, Reply), &[u8])>
     ensures { IfSome result (λ p. IsEvent Version.Two p.0
@@ -78,7 +78,7 @@ fn front_replace(text: &[u8]) -> Option<((Step, Reply), &[u8])>
     Some(((Step::Do(tx, Op::Replace(key, value)), reply), rest))
 }
 
-// What stands behind the word of a Delete, and the lines behind it.
+// What stands after the word of a Delete, and the lines after it.
 #[inline(always)]
 fn front_delete(text: &[u8]) -> Option<((Step, Reply), &[u8])>
     ensures { IfSome result (λ p. IsEvent Version.Two p.0
@@ -93,7 +93,7 @@ fn front_delete(text: &[u8]) -> Option<((Step, Reply), &[u8])>
     Some(((Step::Do(tx, Op::Delete(key)), reply), rest))
 }
 
-// What stands behind the word of a Begin, and the lines behind it.
+// What stands after the word of a Begin, and the lines after it.
 #[inline(always)]
 fn front_begin(text: &[u8]) -> Option<((Step, Reply), &[u8])>
     ensures { IfSome result (λ p. IsEvent Version.Two p.0
@@ -105,7 +105,7 @@ fn front_begin(text: &[u8]) -> Option<((Step, Reply), &[u8])>
     Some(((Step::Begin, reply), rest))
 }
 
-// What stands behind the word of a Commit, and the lines behind it.
+// What stands after the word of a Commit, and the lines after it.
 #[inline(always)]
 fn front_commit(text: &[u8]) -> Option<((Step, Reply), &[u8])>
     ensures { IfSome result (λ p. IsEvent Version.Two p.0
@@ -120,7 +120,7 @@ fn front_commit(text: &[u8]) -> Option<((Step, Reply), &[u8])>
     Some(((Step::Commit(tx), reply), rest))
 }
 
-// A reply behind a bar, and what stands behind its line.
+// A reply after a bar, and what stands after its line.
 #[inline(always)]
 fn front_end(text: &[u8]) -> Option<(Reply, &[u8])>
     ensures { IfSome result (λ p. IsReply Version.Two p.0
@@ -134,7 +134,7 @@ fn front_end(text: &[u8]) -> Option<(Reply, &[u8])>
     Some((reply, rest))
 }
 
-// The reply that a text begins with, and what stands behind it.
+// The reply that a text begins with, and what stands after it.
 #[inline(always)]
 fn front_reply(text: &[u8]) -> Option<(Reply, &[u8])>
     ensures { IfSome result (λ p. IsReply Version.Two p.0 × (text.now ≡ reply_words Version.Two p.0 ++ p.1.now)) }
@@ -243,7 +243,7 @@ fn front_number(text: &[u8]) -> Option<(u64, &[u8])>
     Some((number, &text[end..]))
 }
 
-// The bytes whose digits stand behind the letter h, where they are at most 64.
+// The bytes whose digits stand after the letter h, where they are at most 64.
 #[inline(always)]
 fn front_bytes(text: &[u8]) -> Option<(ArrayVec<u8, 64>, &[u8])>
     ensures bytes { IfSome result (λ p. IsByteList p.0.items) }
@@ -294,7 +294,7 @@ fn front_byte(text: &[u8]) -> Option<(u8, &[u8])>
     Some((byte, rest))
 }
 
-// What stands behind the byte, where a text begins with it.
+// What stands after the byte, where a text begins with it.
 #[inline(always)]
 fn after(byte: u8, text: &[u8]) -> Option<&[u8]>
     ensures { IfSome result (λ rest. text.now ≡ byte ∷ rest.now) }

@@ -80,7 +80,7 @@ impl Field {
         self.bytes.as_slice()
     }
 
-    // The field with these bytes behind it.
+    // The field with these bytes after it.
     fn then(mut self, bytes: &[u8]) -> Field
         requires { length self + length bytes.now ≤ 195 }
         ensures { result ≡ self ++ bytes.now }
@@ -91,7 +91,7 @@ impl Field {
         self
     }
 
-    // The field with the text of these bytes behind it.
+    // The field with the text of these bytes after it.
     fn then_hex(self, bytes: &[u8]) -> Field
         requires { length self + (2 * length bytes.now + 1) ≤ 195 }
         ensures text { result ≡ self ++ hex bytes.now }

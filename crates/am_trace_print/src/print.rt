@@ -54,7 +54,7 @@ impl Page {
         Ok(())
     }
 
-    // Writes fields, each behind a space.
+    // Writes fields, each after a space.
     fn put_further(&mut self, fields: &[Field]) -> Result<(), NoMemory>
         ensures { OnOk result (self.new ≡ self.old ++ flat_map (λ f. 32 ∷ f) fields.now) }
     {
@@ -65,7 +65,7 @@ impl Page {
         Ok(())
     }
 
-    // Writes records, each behind a space.
+    // Writes records, each after a space.
     fn put_records(&mut self, records: &[(Key, Value)]) -> Result<(), NoMemory>
         ensures text { OnOk result (self.new ≡
             self.old ++ flat_map (λ r. 32 ∷ record_word Version.Three r) records.now) }
@@ -86,7 +86,7 @@ impl Page {
         self.put_further(fields)
     }
 
-    /// The same, with records behind them.
+    /// The same, with records after them.
     pub(crate) fn put_with_records(
         &mut self,
         word: &[u8],

@@ -1,4 +1,4 @@
-//! The whole text, and lines behind it.
+//! The whole text, and lines after it.
 
 ghost use Rattle.std.specs.Prelude.{◌≡◌, IfOk};
 ghost use Rattle.am_trace_text.specs.Lines.{CanBeStored, IsTextOf, event_lines, trace_text};
@@ -27,7 +27,7 @@ pub fn trace_text(alloc: Global, trace: &[(Step, Reply)]) -> Result<Vec<u8>, NoM
 }
 
 /// The lines of events, in version 3, which are those of version 2 too where that can write them: what the text of a
-/// trace has more where they stand behind it.
+/// trace has more where they stand after it.
 ///
 /// # Errors
 /// NoMemory, where memory was refused.

@@ -48,7 +48,7 @@ pub fn read_trace(alloc: Global, text: &[u8]) -> Result<Vec<(Step, Reply)>, Trac
     Ok(trace)
 }
 
-/// The event of the first line, and the lines behind it: so a text is read a line at a time.
+/// The event of the first line, and the lines after it: so a text is read a line at a time.
 ///
 /// # Errors
 /// Bad, where the text begins with no line of an event; or NoMemory, where memory was refused.
@@ -70,7 +70,7 @@ pub fn read_line(
     read_by_fields(alloc, version, text)
 }
 
-/// The version that the header names, and what stands behind the header.
+/// The version that the header names, and what stands after the header.
 pub fn read_header(text: &[u8]) -> Option<(Version, &[u8])>
     ensures some { IfSome result (λ p. text.now ≡ header p.0 ++ p.1.now) }
     ensures none { IfNone result (BeginsNoHeader text.now) }

@@ -229,7 +229,7 @@ module _ (laws : LineLaws) where
       ((e : Event) → IsEvent v e → line ≢ event_words v e) → BeginsNoEvent v (line ++ 10 ∷ further)
   no_event v line further none bad = λ e more h same. bad e h (first_line v line further e more none h same).0
 
-  -- two lists of events with one text, behind which no event begins, are one
+  -- two lists of events with one text, after which no event begins, are one
   pub one_list : (v : Version) (a b : List Event) (r s : List ℕ) → AreEvents v a → AreEvents v b → BeginsNoEvent v r →
       BeginsNoEvent v s → event_lines v a ++ r ≡ event_lines v b ++ s → (a ≡ b) × (r ≡ s)
   one_list v [] [] r s h k p q e = (refl, e)

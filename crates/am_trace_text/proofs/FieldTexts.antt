@@ -288,7 +288,7 @@ module _ (laws : NumberLaws) where
 abbrev pub AllHaveNo : ℕ → List (List ℕ) → Type 0
 AllHaveNo c fs = AllByRecursion (λ f. has_no c f ≡ true) fs
 
--- the first = stands behind the key
+-- the first = stands after the key
 place : (key value : List ℕ) → has_no 61 key ≡ true → position_or_len is_equals (key ++ 61 ∷ value) ≡ length key
 place [] value h = refl
 place (b ∷ key) value h =

@@ -64,7 +64,7 @@ pub record IsTextOf (text : List ℕ) (trace : List Event) : Type 0 where
 abbrev pub BeginsNoEvent : Version → List ℕ → Type 0
 BeginsNoEvent v text = (e : Event) (more : List ℕ) → IsEvent v e → text ≢ with_lf (event_words v e) ++ more
 
--- the text begins with the lines of these events in this version, and what stands behind them begins with none
+-- the text begins with the lines of these events in this version, and what stands after them begins with none
 pub record EndsInBadLine (text : List ℕ) (trace : List Event) : Type 0 where
   pub version : Version
   pub events : AreEvents version trace

@@ -15,6 +15,6 @@ module _ {K : Type 0} (holds : K → Option (List ℕ)) where
         (Gave holds old (event_lines Three events) new)
     pub stays : was_cut ≡ true → (is_cut ≡ true) × Gave holds old [] new
 
--- whether version 3 alone writes what was taken, with these events behind it
+-- whether version 3 alone writes what was taken, with these events after it
 abbrev pub needs_three_with : Bool → Trace → Bool
 needs_three_with was events = was || list_any needs_three events

@@ -5,7 +5,7 @@ ghost use Rattle.am_serial.specs.Trace.{Trace};
 
 use am_record::{Reply, Step};
 
-/// Takes a trace piece by piece, each behind those before it.
+/// Takes a trace piece by piece, each after those before it.
 pub trait PieceTaker {
     // From the one state to the other it took these events, in their order.
     ghost took: { Self → Trace → Self → Type 0 };

@@ -6,6 +6,6 @@ use Rattle.am_undo.specs.contracts.undo_log.UndoLog as undo_log
 use Rattle.am_tx.specs.contracts.tx_table.TxTable.{the_row}
 use Rattle.am_tx.specs.Txs.{Txs, with_log}
 
--- the table ends with the last log behind r as that of the transaction, and else as it was
+-- the table ends with the last log after r as that of the transaction, and else as it was
 abbrev pub LendsLog : MutBor Txs → ℕ → MutBor Log → Fml
 LendsLog txs tx r = Lends the_row undo_log.the_row txs r (with_log txs.now tx)

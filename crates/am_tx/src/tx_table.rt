@@ -3,6 +3,7 @@
 ghost use Rattle.std.specs.Prelude.{◌≡◌, ◌≢◌, ◌+◌, ◌<◌, ◌≤◌, ◌↔◌, [], Some, None, true, false, length, take};
 ghost use Rattle.std.specs.Prelude.{slice_index_or, slice_set, if◌then◌else◌, IfOk};
 ghost use Rattle.std.specs.Borrow.{sem};
+ghost use Rattle.am_record.specs.Limits.{max_ops, max_locks};
 ghost use Rattle.am_record.specs.Locks.{is_covered, with_lock};
 ghost use Rattle.am_record.specs.ByNumber.{with_changed};
 ghost use Rattle.am_locks.specs.Table.{locks_owned, with_locks, blockers};
@@ -42,6 +43,7 @@ impl Drop for TxTable {
 impl Model for TxTable {
     ghost use Rattle.std.specs.Prelude.{◌≤◌, vec_capacity};
     ghost use Rattle.am_tx.specs.Txs.{Txs, txs_code, IsConsistent};
+    ghost use Rattle.am_record.specs.Limits.{max_active};
 
     ghost Value = { Txs };
 
@@ -50,7 +52,7 @@ impl Model for TxTable {
     ghost view = { λ t. record { begun = t.begun; active = t.active.items; locks = t.locks } };
 
     ghost invariant = { λ t. IsConsistent (record { begun = t.begun; active = t.active.items; locks = t.locks })
-        × (64 ≤ vec_capacity t.active) };
+        × (max_active ≤ vec_capacity t.active) };
 }
 
 impl TxTable {
@@ -120,7 +122,7 @@ impl TxTable {
     pub fn ops(&self, tx: u64) -> u64
         requires { is_active_in self.now.active tx ≡ true }
         ensures count { result ≡ ops_in self.now.active tx }
-        ensures few { result ≤ 4096 }
+        ensures few { result ≤ max_ops }
     {
         self.active[self.place_of(tx)].ops
     }
@@ -128,7 +130,7 @@ impl TxTable {
     /// Counts one operation of the transaction.
     pub fn count_op(&mut self, tx: u64)
         requires active { is_active_in self.old.active tx ≡ true }
-        requires few { ops_in self.old.active tx < 4096 }
+        requires few { ops_in self.old.active tx < max_ops }
         ensures { self.new ≡ txs_after_op self.old tx }
     {
         let place = self.place_of(tx);
@@ -161,7 +163,7 @@ impl TxTable {
         ensures too_many_locks { (result ≡ Asked.TooManyLocks)
             ↔ ((blockers self.old.locks tx asked ≡ [])
             × (is_covered (locks_owned self.old.locks tx) asked ≡ false)
-            × (length (locks_owned self.old.locks tx) ≡ 256)) }
+            × (length (locks_owned self.old.locks tx) ≡ max_locks)) }
         ensures no_memory { result ≡ Asked.NoMemory
             → (is_covered (locks_owned self.old.locks tx) asked ≡ false)
             × (8 ≤ length (locks_owned self.old.locks tx)) }
@@ -180,7 +182,7 @@ impl TxTable {
     pub fn held(&self, tx: u64) -> usize
         requires { is_active_in self.now.active tx ≡ true }
         ensures count { result ≡ length (locks_owned self.now.locks tx) }
-        ensures few { result ≤ 256 }
+        ensures few { result ≤ max_locks }
     {
         self.locks.held(tx)
     }

@@ -11,7 +11,7 @@ ghost use Rattle.am_undo.specs.Notes.{TakesBack, CanTakeBack, Stands, OneLive, N
 ghost use Rattle.am_undo.specs.Notes.{ghosted};
 
 use crate::note::Note;
-use am_index::PartIndex;
+use am_index::{Hint, PartIndex};
 use am_parts::Parts;
 use am_record::{Key, NoMemory};
 use smallvec::SmallVec;
@@ -205,7 +205,7 @@ fn take_back_one<I: PartIndex + Drop>(parts: &mut Parts<I>, note: Note)
             key,
             value,
             is_ghost,
-        } => parts.set(part, key, value, is_ghost),
+        } => parts.set(part, key, value, is_ghost, Hint::none()),
         Note::RunMade(run) => bury_run(parts, run),
     }
 }
@@ -219,10 +219,9 @@ fn bury<I: PartIndex + Drop>(parts: &mut Parts<I>, part: u32, key: Key)
     ensures runs { parts.new.runs ≡ parts.old.runs }
     ensures rooms { KeepRoom parts.old.roomy parts.new.roomy parts.new.entries }
 {
-    let Some(found) = parts.find(part, key) else {
-        unreachable!()
-    };
-    parts.set(part, key, found.0, true);
+    let (slot, hint) = parts.look(part, key);
+    let Some(found) = slot else { unreachable!() };
+    parts.set(part, key, found.0, true, hint);
 }
 
 // Makes all entries of a partition ghosts with their values.
@@ -235,7 +234,7 @@ fn bury_run<I: PartIndex + Drop>(parts: &mut Parts<I>, run: u32)
 {
     let mut next = parts.next_from(run, Key::least());
     while let Some(entry) = next {
-        parts.set(run, entry.key, entry.value, true);
+        parts.set(run, entry.key, entry.value, true, Hint::none());
         next = parts.after(run, entry.key);
     }
 }

@@ -22,7 +22,7 @@ rows_words-more rows i row inside e =
     ∙ ap (λ (text : List ℕ). rows_words (take i rows) ++ text) (append-nil (row_words (get_or rows i row)))
     ∙ ap (λ (r : OrderedKey × List ℕ). rows_words (take i rows) ++ row_words r) (sym e)
 
--- the rows before a row, the row and the rows behind it are all rows
+-- the rows before a row, the row and the rows after it are all rows
 pub around_row : (rows : Records) (i : ℕ) (row : OrderedKey × List ℕ) → i < length rows → row ≡ get_or rows i row →
     (rows_words (take i rows) ++ row_words row) ++ rows_words (drop (i + 1) rows) ≡ rows_words rows
 around_row rows i row inside e =

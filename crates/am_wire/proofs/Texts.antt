@@ -94,7 +94,7 @@ HasNoLf-rows_words [] h = tt
 HasNoLf-rows_words (row ∷ rows) h = HasNoLf-append (row_words row) (rows_words rows) (HasNoLf-row_words row h.0)
     (HasNoLf-rows_words rows h.1)
 
--- a number behind a space
+-- a number after a space
 then_number : (xs : List ℕ) (n : ℕ) → HasNoLf xs → HasNoLf ((xs ++ codes " ") ++ decimal n)
 unfolding is_free
 then_number xs n h = HasNoLf-append (xs ++ codes " ") (decimal n)

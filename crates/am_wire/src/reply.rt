@@ -12,7 +12,7 @@ use am_sink::{Failed, Sink, StopSink, give_all};
 use am_text::{ReplyWord, Text, refusal_code};
 use std::alloc::Global;
 
-// A word with a space behind it.
+// A word with a space after it.
 fn spaced(word: ReplyWord) -> Text
     ensures words { result ≡ spaced word }
     ensures short { length result ≤ 10 }

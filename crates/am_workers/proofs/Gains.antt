@@ -168,7 +168,7 @@ pub may_have_cleaned : (seats : ℕ) (from to : Place) (s t : SeatState) (works 
 may_have_cleaned seats from to s t works (Some r) h = cleaned_either_way s t h.range r (is_stored r) h.called
 may_have_cleaned seats from to s t works None h = inl h.same
 
--- a turn has a merge, and perhaps a Clean behind it
+-- a turn has a merge, and perhaps a Clean after it
 goes_on : (upkeep : Upkeep) (limit seats : ℕ) (from to : Place) (s t u v : SeatState) (works : Bool)
     (merge reply : Reply) →
     HasLetGo s t → HasReceiptOf t (Merge limit) merge u →

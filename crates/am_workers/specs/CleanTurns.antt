@@ -27,7 +27,7 @@ abbrev pub ghost_to_clean : List Entry → ℕ → OrderedKey → Option Entry
 ghost_to_clean es part key =
     if has_many_ghosts es then option_or (next_ghost es part key) (next_ghost es 0 key_least) else None
 
--- Where to go on behind a Clean from the entry's key on: where it cleaned fewer than 64, at the next partition, since
+-- Where to go on after a Clean from the entry's key on: where it cleaned fewer than 64, at the next partition, since
 -- all ghosts left there are locked; else at the entry itself.
 abbrev pub place_behind : Entry → Reply → Place
 place_behind e (Cleaned n) =

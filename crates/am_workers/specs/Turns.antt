@@ -11,7 +11,7 @@ use Rattle.am_turns.specs.declared.upkeep.Upkeep.{Upkeep}
 use Rattle.am_turns.specs.declared.upkeep.Upkeep.TheVariants.{MergeAndClean}
 
 -- The receipts of one turn: that of Merge(limit). Where the worker cleans, that of a Clean of at most 64 may stand
--- right behind it, if nothing was left to merge.
+-- right after it, if nothing was left to merge.
 abbrev pub IsTurn : Upkeep → ℕ → List Receipt → Type 0
 IsTurn upkeep limit (m ∷ []) = m.step ≡ Merge limit
 IsTurn MergeAndClean limit (m ∷ c ∷ []) = (m.step ≡ Merge limit) × (m.reply ≡ Idle) ×

@@ -19,7 +19,7 @@ pub record HasLetGo (s t : SeatState) : Type 0 where
   pub gone : s.let_go ≤ 100000000000000 → t.let_go ≡ length s.receipts
   pub kept : 100000000000000 < s.let_go → t ≡ s
 
--- what a worker does behind this answer to its merge: where it is Idle, it cleans or looks
+-- what a worker does after this answer to its merge: where it is Idle, it cleans or looks
 abbrev pub after_merge : Upkeep → Reply → AfterMerge
 after_merge MergeAndClean Idle = Clean
 after_merge MergeOnly Idle = Look
@@ -30,7 +30,7 @@ abbrev pub last_reply : Option Reply → Reply → Reply
 last_reply (Some cleaned) merged = cleaned
 last_reply None merged = merged
 
--- nothing is done behind the merge, and there may be more work
+-- nothing is done after the merge, and there may be more work
 pub record OnlyMerged (from : Place) (s : SeatState) (merged : Reply) (works : Bool) (reply : Reply) (to : Place)
     (t : SeatState) : Type 0 where
   pub more : works ≡ true
@@ -38,7 +38,7 @@ pub record OnlyMerged (from : Place) (s : SeatState) (merged : Reply) (works : B
   pub there : to ≡ from
   pub same : t ≡ s
 
--- behind the merge the worker sees whether runs have entries, and there is more work just then
+-- after the merge the worker sees whether runs have entries, and there is more work just then
 pub record ThenLooked (seats : ℕ) (from : Place) (s : SeatState) (merged : Reply) (works : Bool) (reply : Reply)
     (to : Place) (t : SeatState) : Type 0 where
   pub saw : SawRuns seats s works
@@ -46,14 +46,14 @@ pub record ThenLooked (seats : ℕ) (from : Place) (s : SeatState) (merged : Rep
   pub there : to ≡ from
   pub same : t ≡ s
 
--- behind the merge the worker cleans once, from its place on
+-- after the merge the worker cleans once, from its place on
 pub record ThenCleaned (seats : ℕ) (from : Place) (s : SeatState) (merged : Reply) (works : Bool) (reply : Reply)
     (to : Place) (t : SeatState) : Type 0 where
   pub cleaned : Option Reply
   pub cleans : HasCleaned seats from s works cleaned to t
   pub answer : reply ≡ last_reply cleaned merged
 
--- what is done behind the merge
+-- what is done after the merge
 abbrev pub GoesOn : AfterMerge → ℕ → Place → SeatState → Reply → Bool → Reply → Place → SeatState → Type 0
 GoesOn Nothing seats from s merged works reply to t = OnlyMerged from s merged works reply to t
 GoesOn Look seats from s merged works reply to t = ThenLooked seats from s merged works reply to t

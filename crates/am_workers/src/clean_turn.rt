@@ -38,7 +38,7 @@ impl Place {
     }
 
     // Where to go on after a Clean from the entry's key on. Where it cleaned fewer than it might, all ghosts left from
-    // there on are locked: the partition has no more to clean behind the entry.
+    // there on are locked: the partition has no more to clean after the entry.
     fn behind(entry: &Entry, reply: &Reply) -> Place
         ensures { result ≡ place_behind entry.now reply.now }
     {

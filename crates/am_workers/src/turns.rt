@@ -82,7 +82,7 @@ fn take_turn<L: LatchName, R: Wait>(
     }
 }
 
-/// What a worker does in a turn behind its merge.
+/// What a worker does in a turn after its merge.
 #[derive(Clone, Copy)]
 enum AfterMerge {
     /// Nothing: more may be to merge.
@@ -93,7 +93,7 @@ enum AfterMerge {
     Clean,
 }
 
-// What a worker does behind this answer to its merge. Where it isn't Idle, more may be to merge.
+// What a worker does after this answer to its merge. Where it isn't Idle, more may be to merge.
 fn after_merge(upkeep: Upkeep, merged: &Reply) -> AfterMerge
     ensures { result ≡ after_merge upkeep merged.now }
 {

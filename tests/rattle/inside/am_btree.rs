@@ -2,7 +2,7 @@ use crate::BTree;
 use crate::insert::Obstacle;
 use crate::node::{Node, Subtree};
 use crate::read::Start;
-use am_index::PartIndex;
+use am_index::{Hint, PartIndex};
 use am_record::{Entry, Key, NoMemory, Value};
 use std::alloc::Global;
 use std::test::Fail;
@@ -80,8 +80,8 @@ fn scattered_inserts_leave_leaves_half_full(rt: HostRuntime) -> Result<(), Fail>
     let mut tree = Subtree::new(rt.alloc())?;
     for i in 0..1500_u64 {
         let entry = numbered(0, 7919 * i % 1500);
-        if tree.find(entry.part, entry.key).is_none() {
-            tree.insert(rt.alloc(), &entry)?;
+        if tree.look(entry.part, entry.key, Hint::none()).0.is_none() {
+            tree.insert(rt.alloc(), &entry, Hint::none())?;
         }
     }
     assert!(rt; leaves(&tree) <= 100);
@@ -101,7 +101,7 @@ fn all_leaves_stand_at_one_depth(rt: HostRuntime) -> Result<(), Fail> {
     }
     for number in 0..3200_u64 {
         let key = Key::of_u64(3200 - number);
-        if tree.find(0, key).is_some() {
+        if tree.look(0, key, Hint::none()).0.is_some() {
             tree.remove(0, key);
         }
     }
@@ -124,15 +124,15 @@ fn a_new_entry_is_added_once(rt: HostRuntime) -> Result<(), Fail> {
 fn what_comes_in_order_fills_its_leaves(rt: HostRuntime) -> Result<(), Fail> {
     let mut tree = Subtree::new(rt.alloc())?;
     for number in 0..32_u64 {
-        tree.insert(rt.alloc(), &numbered(0, number))?;
+        tree.insert(rt.alloc(), &numbered(0, number), Hint::none())?;
     }
     for number in 0..32_u64 {
-        tree.insert(rt.alloc(), &numbered(2, number))?;
+        tree.insert(rt.alloc(), &numbered(2, number), Hint::none())?;
     }
     assert!(rt; leaves(&tree) == 2);
     // They go behind the one leaf and before the other.
     for number in 0..3200_u64 {
-        tree.insert(rt.alloc(), &numbered(1, number))?;
+        tree.insert(rt.alloc(), &numbered(1, number), Hint::none())?;
     }
     assert!(rt; leaves(&tree) == 102);
     Ok(())
@@ -143,8 +143,8 @@ fn a_loaded_run_fills_its_leaves(rt: HostRuntime) -> Result<(), Fail> {
     let mut tree = Subtree::new(rt.alloc())?;
     for number in 0..3200_u64 {
         let entry = numbered(1, number);
-        if tree.find(entry.part, entry.key).is_none() {
-            tree.insert(rt.alloc(), &entry)?;
+        if tree.look(entry.part, entry.key, Hint::none()).0.is_none() {
+            tree.insert(rt.alloc(), &entry, Hint::none())?;
         }
     }
     assert!(rt; leaves(&tree) == 100);
@@ -221,7 +221,7 @@ fn count(tree: &Subtree) -> usize {
 
 // Adds the entry to a tree, unless its place is taken.
 fn add_to(tree: &mut Subtree, alloc: Global, entry: Entry) -> Result<(), NoMemory> {
-    match tree.insert(alloc, &entry) {
+    match tree.insert(alloc, &entry, Hint::none()) {
         Err(Obstacle::NoMemory) => Err(NoMemory),
         Ok(()) | Err(Obstacle::Taken) => Ok(()),
     }
@@ -239,7 +239,7 @@ fn with_scattered(alloc: Global, many: u64) -> Result<Subtree, NoMemory> {
 // Whether the tree has the run, and besides it as many entries.
 fn has_run(tree: &Subtree, many: usize, part: u32, pairs: &[(Key, Value)]) -> bool {
     count(tree) == many.saturating_add(pairs.len())
-        && pairs.iter().all(|(key, value)| tree.find(part, *key) == Some((*value, false)))
+        && pairs.iter().all(|(key, value)| tree.look(part, *key, Hint::none()).0 == Some((*value, false)))
 }
 
 // A run of so many records is appended to a tree of so many entries.
@@ -286,7 +286,7 @@ fn a_loaded_run_takes_inserts_in_its_middle(rt: HostRuntime) -> Result<(), Fail>
     }
     assert!(rt; count(&tree) == 6_440);
     for number in 0..6_400_u64 {
-        assert!(rt; tree.find(1, Key::of_u64(number)).is_some());
+        assert!(rt; tree.look(1, Key::of_u64(number), Hint::none()).0.is_some());
     }
     Ok(())
 }

@@ -1,6 +1,6 @@
 //! Entries of the tests, and partitions with them.
 
-use am_index::PartIndex;
+use am_index::{Hint, PartIndex};
 use am_list_index::ListIndex;
 use am_parts::Parts;
 use am_record::{Entry, HashKey, Key, NoMemory, Value};
@@ -37,7 +37,7 @@ pub(crate) fn add<I: PartIndex + Drop>(parts: &mut Parts<I>, entry: Entry) -> Re
     if !entry.is_ghost && parts.place_of(entry.key).is_some() {
         return Ok(());
     }
-    parts.add(entry)
+    parts.add(entry, Hint::none())
 }
 
 /// Partitions with the entries.

@@ -1,7 +1,7 @@
 //! Values of each length in a tree, whose leaves have room for short ones at first.
 
 use am_btree::BTree;
-use am_index::PartIndex;
+use am_index::{Hint, PartIndex};
 use am_record::{Entry, Key, Range, Value};
 use std::alloc::Global;
 use std::process::Abort;
@@ -60,7 +60,7 @@ fn has_all(rt: &impl Abort, alloc: Global, tree: &BTree, due: &[(usize, u64)]) {
     }
     let range = Range::new(Key::of_u64(0), Key::of_u64(9_999)).expect(rt, "in order");
     let mut rows = Vec::new(alloc);
-    tree.copy_rows(1, range, 9_999, &mut rows)
+    tree.copy_rows(1, range, 9_999, &mut rows, Hint::none())
         .expect(rt, "memory");
     assert!(rt; rows == live);
 }
@@ -98,7 +98,8 @@ fn values_of_each_length_are_inserted_among_short_ones(rt: HostRuntime) {
         let mut odd = Vec::new(rt.alloc());
         for (at, bytes) in LENGTHS.into_iter().enumerate() {
             let number = 48 * at as u64 + 1;
-            tree.insert(entry(bytes, number)).expect(&rt, "memory");
+            tree.insert(entry(bytes, number), Hint::none())
+                .expect(&rt, "memory");
             odd.push((bytes, number)).expect(&rt, "memory");
             assert!(rt; tree.insert_new(entry(bytes, number + 2)) == Ok(true));
             odd.push((bytes, number + 2)).expect(&rt, "memory");
@@ -132,7 +133,7 @@ fn has_run(
 ) -> bool {
     let range = Range::new(Key::of_u64(0), Key::of_u64(9_999)).expect(rt, "in order");
     let mut rows = Vec::new(alloc);
-    tree.copy_rows(part, range, 9_999, &mut rows)
+    tree.copy_rows(part, range, 9_999, &mut rows, Hint::none())
         .expect(rt, "memory");
     rows.as_slice() == pairs
         && pairs.iter().all(|(key, value)| tree.find(part, *key) == Some((*value, false)))
@@ -167,8 +168,9 @@ fn set_with_room(rt: &impl Abort, tree: &mut BTree, bytes: usize, number: u64) {
         is_ghost,
         ..
     } = entry(bytes, number);
-    tree.make_room(1, key, bytes).expect(rt, "memory");
-    assert!(rt; tree.set(1, key, value, is_ghost) == !is_ghost);
+    tree.make_room(1, key, bytes, Hint::none())
+        .expect(rt, "memory");
+    assert!(rt; tree.set(1, key, value, is_ghost, Hint::none()) == !is_ghost);
 }
 
 #[test]
@@ -197,7 +199,7 @@ fn set_back(rt: &impl Abort, tree: &mut BTree, bytes: usize, number: u64) {
         is_ghost,
         ..
     } = entry(bytes, number);
-    assert!(rt; tree.set(1, key, value, is_ghost) == !is_ghost);
+    assert!(rt; tree.set(1, key, value, is_ghost, Hint::none()) == !is_ghost);
 }
 
 // The even numbers below 100 have long values once, and short ones after that.

@@ -5,7 +5,9 @@
 //! They are run by the kit's checked build, and not proved. Their files end in `.rs`, so that the gate doesn't read them.
 #![tactic(auto)]
 
+mod answer_digests;
 mod audits;
+mod block_lines;
 mod calls;
 mod cleaning;
 mod commands;
@@ -13,6 +15,7 @@ mod counters;
 mod directory;
 mod entries;
 mod failing;
+mod following;
 mod history;
 mod keys;
 mod lengths;
@@ -37,8 +40,10 @@ mod puts;
 mod recording;
 mod records;
 mod refused;
+mod replica_entries;
 mod replica_logs;
 mod replica_pieces;
+mod replica_stores;
 mod replica_texts;
 mod replicas;
 mod replies;

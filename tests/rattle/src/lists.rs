@@ -1,7 +1,7 @@
 //! The index that is a list.
 
 use crate::entries::{byte, dead, live};
-use am_index::{Batch, PartIndex};
+use am_index::{Batch, Hint, PartIndex};
 use am_list_index::ListIndex;
 use am_record::{Entry, Key, NoMemory, Range, Value};
 use std::alloc::Global;
@@ -10,7 +10,7 @@ use std::process::Abort;
 // Adds the entry, unless its place is taken.
 fn add<I: PartIndex>(index: &mut I, entry: Entry) -> Result<(), NoMemory> {
     if index.find(entry.part, entry.key).is_none() {
-        index.insert(entry)?;
+        index.insert(entry, Hint::none())?;
     }
     Ok(())
 }
@@ -158,7 +158,9 @@ fn copies(
 ) {
     let range = Range::new(Key::of_u64(2), Key::of_u64(9)).expect(rt, "in order");
     assert!(rt; rows.len() as u64 <= max);
-    index.copy_rows(1, range, max, rows).expect(rt, "memory");
+    index
+        .copy_rows(1, range, max, rows, Hint::none())
+        .expect(rt, "memory");
     assert!(rt; rows.len() == numbers.len());
     for (row, number) in rows.iter().zip(numbers) {
         assert!(rt; *row == (Key::of_u64(*number), byte(b'n')));
@@ -186,7 +188,7 @@ fn copies_back(
     let range = Range::new(Key::of_u64(2), Key::of_u64(9)).expect(rt, "in order");
     assert!(rt; rows.len() as u64 <= max);
     index
-        .copy_rows_back(1, range, max, rows)
+        .copy_rows_back(1, range, max, rows, Hint::none())
         .expect(rt, "memory");
     assert!(rt; rows.len() == numbers.len());
     for (row, number) in rows.iter().zip(numbers) {
@@ -219,7 +221,7 @@ fn edits_the_entry_of_a_place(rt: HostRuntime) {
 
     let key = Key::of_u64(5);
     if index.find(1, key).is_some() {
-        index.set(1, key, byte(b'x'), true);
+        index.set(1, key, byte(b'x'), true, Hint::none());
     }
     let changed = [live(0, 5, b'a'), dead(1, 5, b'x'), live(1, 7, b'c')];
     has(&rt, &index, &changed);

@@ -1,6 +1,7 @@
 //! Runs and their loads.
 
 use crate::entries::{byte, dead, live};
+use am_index::Hint;
 use am_list_index::ListIndex;
 use am_loads::load;
 use am_parts::Parts;
@@ -25,7 +26,7 @@ fn add(parts: &mut Parts<ListIndex>, entry: Entry) -> Result<(), NoMemory> {
     if !entry.is_ghost && parts.place_of(entry.key).is_some() {
         return Ok(());
     }
-    parts.add(entry)
+    parts.add(entry, Hint::none())
 }
 
 // The run of the pairs, which rise.

@@ -1,7 +1,7 @@
 //! Merge steps, clean steps and their wishes.
 
 use am_btree::BTree;
-use am_index::PartIndex;
+use am_index::{Hint, PartIndex};
 use am_list_index::ListIndex;
 use am_locks::{Asked, LockTable};
 use am_merge::{Wishes, clean_step, merge_step};
@@ -36,12 +36,15 @@ fn add<I: PartIndex + Drop>(
     if !is_ghost && parts.place_of(key).is_some() {
         return Ok(());
     }
-    parts.add(Entry {
-        part,
-        key,
-        value,
-        is_ghost,
-    })
+    parts.add(
+        Entry {
+            part,
+            key,
+            value,
+            is_ghost,
+        },
+        Hint::none(),
+    )
 }
 
 fn over(rt: &impl Abort, alloc: Global, entries: &[Standing]) -> Parts<ListIndex> {

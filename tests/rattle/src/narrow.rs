@@ -1,6 +1,6 @@
 //! An index that gets room for long values, unless memory is refused.
 
-use am_index::{Batch, PartIndex};
+use am_index::{Batch, Hint, PLACES_AT_ONCE, PartIndex};
 use am_list_index::ListIndex;
 use am_record::{Entry, Key, NoMemory, Range, Value};
 use std::alloc::Global;
@@ -64,6 +64,14 @@ impl PartIndex for Narrow {
         self.index.find(part, key)
     }
 
+    fn look(&self, part: u32, key: Key, hint: Hint) -> (Option<(Value, bool)>, Hint) {
+        self.index.look(part, key, hint)
+    }
+
+    fn hints(&self, places: &[(u32, Key)]) -> [Hint; PLACES_AT_ONCE] {
+        self.index.hints(places)
+    }
+
     fn next_from(&self, part: u32, key: Key) -> Option<Entry> {
         self.index.next_from(part, key)
     }
@@ -86,8 +94,9 @@ impl PartIndex for Narrow {
         range: Range,
         max: u64,
         rows: &mut Vec<(Key, Value)>,
+        hint: Hint,
     ) -> Result<(), NoMemory> {
-        self.index.copy_rows(part, range, max, rows)
+        self.index.copy_rows(part, range, max, rows, hint)
     }
 
     fn copy_rows_back(
@@ -96,8 +105,9 @@ impl PartIndex for Narrow {
         range: Range,
         max: u64,
         rows: &mut Vec<(Key, Value)>,
+        hint: Hint,
     ) -> Result<(), NoMemory> {
-        self.index.copy_rows_back(part, range, max, rows)
+        self.index.copy_rows_back(part, range, max, rows, hint)
     }
 
     fn next_any(&self, part: u32, key: Key) -> Option<Entry> {
@@ -108,9 +118,9 @@ impl PartIndex for Narrow {
         self.index.next_ghost(part, key)
     }
 
-    fn insert(&mut self, entry: Entry) -> Result<(), NoMemory> {
+    fn insert(&mut self, entry: Entry, hint: Hint) -> Result<(), NoMemory> {
         self.get_room(entry.part, entry.key, entry.value.len())?;
-        let added = self.index.insert(entry);
+        let added = self.index.insert(entry, hint);
         self.give_up();
         added
     }
@@ -119,7 +129,7 @@ impl PartIndex for Narrow {
         if self.find(entry.part, entry.key).is_some() {
             return Ok(false);
         }
-        self.insert(entry)?;
+        self.insert(entry, Hint::none())?;
         Ok(true)
     }
 
@@ -138,7 +148,13 @@ impl PartIndex for Narrow {
         appended
     }
 
-    fn make_room(&mut self, part: u32, key: Key, bytes: usize) -> Result<(), NoMemory> {
+    fn make_room(
+        &mut self,
+        part: u32,
+        key: Key,
+        bytes: usize,
+        _hint: Hint,
+    ) -> Result<(), NoMemory> {
         if self.has_room(part, key, bytes) {
             return Ok(());
         }
@@ -149,10 +165,10 @@ impl PartIndex for Narrow {
         self.get_room(part, key, bytes)
     }
 
-    fn set(&mut self, part: u32, key: Key, value: Value, is_ghost: bool) -> bool {
+    fn set(&mut self, part: u32, key: Key, value: Value, is_ghost: bool, hint: Hint) -> bool {
         let has_room = self.has_room(part, key, value.len());
         prove!(has_room);
-        self.index.set(part, key, value, is_ghost)
+        self.index.set(part, key, value, is_ghost, hint)
     }
 
     fn remove(&mut self, part: u32, key: Key) -> Entry {

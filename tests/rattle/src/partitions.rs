@@ -1,7 +1,7 @@
 //! Partitions.
 
 use crate::entries::{add, byte, dead, live, over};
-use am_index::PartIndex;
+use am_index::{Hint, PartIndex};
 use am_list_index::ListIndex;
 use am_parts::{Parts, RunFault};
 use am_record::{Entry, HashKey, Key};
@@ -38,7 +38,7 @@ fn place_of_passes_over_ghosts_and_empty_partitions(rt: HostRuntime) {
 // Makes a ghost of the entry of the place, where one stands there.
 fn bury(parts: &mut Parts<ListIndex>, part: u32, key: Key, value: u8) {
     if parts.find(part, key).is_some() {
-        parts.set(part, key, byte(value), true);
+        parts.set(part, key, byte(value), true, Hint::none());
     }
 }
 
@@ -46,7 +46,7 @@ fn bury(parts: &mut Parts<ListIndex>, part: u32, key: Key, value: u8) {
 #[tactic(auto, using(am_parts::proofs::Lives::live_nowhere))]
 fn revive(parts: &mut Parts<ListIndex>, part: u32, key: Key, value: u8) {
     if parts.find(part, key).is_some() && parts.place_of(key).is_none() {
-        parts.set(part, key, byte(value), false);
+        parts.set(part, key, byte(value), false, Hint::none());
     }
 }
 

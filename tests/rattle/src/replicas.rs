@@ -2,7 +2,7 @@
 
 use am_model::Plain;
 use am_record::{Key, NoMemory, Op, Reply, Value};
-use am_replica::{Block, Digest, Machine, Outcome, Replica, Sum, Transaction, TrialFault};
+use am_replica::{Block, Digest, Machine, Outcome, Replica, Transaction, TrialFault};
 use std::alloc::Global;
 use std::test::Fail;
 
@@ -46,14 +46,17 @@ impl Machine for PlainMachine {
 struct Founds;
 
 impl Digest for Founds {
-    ghost digest_of = { λ _. record { high = 0; low = 0 } };
+    ghost use Rattle.std.specs.Prelude.{replicate};
 
-    fn digest(&self, replies: &[Reply]) -> Sum {
-        let mut low = 1;
+    ghost digest_of = { λ _. replicate 32 0 };
+
+    fn digest(&self, replies: &[Reply]) -> Result<[u8; 32], NoMemory> {
+        let mut sum = [0; 32];
+        sum[0] = 1;
         for reply in replies {
-            low = low * 2 + u128::from(matches!(reply, Reply::Found(_)));
+            sum[0] = sum[0] * 2 + u8::from(matches!(reply, Reply::Found(_)));
         }
-        Sum { high: 0, low }
+        Ok(sum)
     }
 }
 
@@ -81,7 +84,7 @@ fn block(ops: Vec<Op>, told: usize, replies: &[Reply]) -> Block {
     Block {
         ops,
         told,
-        digest: Founds.digest(replies),
+        digest: Founds.digest(replies).unwrap(),
     }
 }
 
@@ -107,7 +110,7 @@ fn a_block_commits_where_it_is_answered_as_told(rt: HostRuntime) -> Result<(), F
 fn a_transaction_is_told_of_one_state(rt: HostRuntime) -> Result<(), Fail> {
     let alloc = rt.alloc();
     let mut replica = replica(alloc);
-    let mut slow = Transaction::new(alloc, &Founds);
+    let mut slow = Transaction::new(alloc, &Founds)?;
     let told = slow.trial(alloc, &mut replica.machine, &Founds, &[get(1), insert(2)]);
     assert!(rt; told.is_ok_and(|it| it.as_slice() == [Reply::Absent, Reply::Done].as_slice()));
     let other = vec![in alloc; block(vec![in alloc; insert(1)]?, 0, &[])]?;
@@ -117,7 +120,7 @@ fn a_transaction_is_told_of_one_state(rt: HostRuntime) -> Result<(), Fail> {
         let told = slow.trial(alloc, &mut replica.machine, &Founds, &[get(3)]);
         assert!(rt; matches!(told, Err(TrialFault::Conflict)));
     }
-    let mut quick = Transaction::new(alloc, &Founds);
+    let mut quick = Transaction::new(alloc, &Founds)?;
     let told = quick.trial(alloc, &mut replica.machine, &Founds, &[get(1)]);
     assert!(rt; told.is_ok_and(|it| it.len() == 1));
     let last = vec![in alloc; quick.into_block(alloc, &[insert(2)])?]?;

@@ -3,7 +3,7 @@
 use crate::entries::{add, byte, dead, live};
 use crate::narrow::Narrow;
 use am_btree::BTree;
-use am_index::PartIndex;
+use am_index::{Hint, PartIndex};
 use am_parts::Parts;
 use am_record::{Entry, HashKey, Key, Value};
 use std::alloc::Global;
@@ -41,15 +41,15 @@ fn has<I: PartIndex + Drop>(rt: &impl Abort, parts: &Parts<I>, entry: Entry) {
 fn a_long_value_is_set_over_a_short_one(rt: HostRuntime) {
     let (key, record) = (Key::of_u64(5), live(0, 5, b'a'));
     let mut parts = over(&rt, rt.alloc(), &[], &[record, live(0, 7, b'b')]);
-    assert!(rt; parts.make_room(0, key, 40).is_ok());
+    assert!(rt; parts.make_room(0, key, 40, Hint::none()).is_ok());
     has(&rt, &parts, record);
-    parts.set(0, key, long(b'c'), false);
+    parts.set(0, key, long(b'c'), false, Hint::none());
     has(&rt, &parts, lengthened(record, b'c'));
 
     // Its room stays while a short value or a ghost stands there.
-    parts.set(0, key, byte(b'd'), true);
+    parts.set(0, key, byte(b'd'), true, Hint::none());
     has(&rt, &parts, dead(0, 5, b'd'));
-    parts.set(0, key, long(b'e'), false);
+    parts.set(0, key, long(b'e'), false, Hint::none());
     has(&rt, &parts, lengthened(record, b'e'));
     has(&rt, &parts, live(0, 7, b'b'));
 }
@@ -58,12 +58,18 @@ fn a_long_value_is_set_over_a_short_one(rt: HostRuntime) {
 fn refused_room_changes_nothing(rt: HostRuntime) {
     let (key, record) = (Key::of_u64(5), live(0, 5, b'a'));
     let mut parts = over(&rt, rt.alloc(), &[1], &[record]);
-    assert!(rt; parts.make_room(0, key, 17).is_err());
+    assert!(rt; parts.make_room(0, key, 17, Hint::none()).is_err());
     has(&rt, &parts, record);
-    assert!(rt; parts.make_room(0, key, 16).is_ok());
-    parts.set(0, key, Value::new(&[b'b'; 16]).unwrap(), false);
-    assert!(rt; parts.make_room(0, key, 17).is_ok());
-    parts.set(0, key, long(b'c'), false);
+    assert!(rt; parts.make_room(0, key, 16, Hint::none()).is_ok());
+    parts.set(
+        0,
+        key,
+        Value::new(&[b'b'; 16]).unwrap(),
+        false,
+        Hint::none(),
+    );
+    assert!(rt; parts.make_room(0, key, 17, Hint::none()).is_ok());
+    parts.set(0, key, long(b'c'), false, Hint::none());
     has(&rt, &parts, lengthened(record, b'c'));
 }
 

@@ -2,7 +2,7 @@
 
 use crate::entries::{add, byte, dead, live, over};
 use am_btree::BTree;
-use am_index::PartIndex;
+use am_index::{Hint, PartIndex};
 use am_list_index::ListIndex;
 use am_parts::Parts;
 use am_record::{Entry, HashKey, Key, NoMemory, Range, Value};
@@ -282,7 +282,7 @@ fn dealt(rt: &impl Abort, alloc: Global, runs: u64, in_turn: bool) -> Parts<BTre
         for pair in &pairs {
             let part = parts.runs();
             if pair.0.front().is_multiple_of(5) {
-                parts.set(part, pair.0, byte(b'g'), true);
+                parts.set(part, pair.0, byte(b'g'), true, Hint::none());
             }
         }
     }

@@ -1,7 +1,8 @@
 //! The tree beside the list, as indexes.
 
+use crate::entries::byte;
 use am_btree::BTree;
-use am_index::{Batch, PartIndex};
+use am_index::{Batch, Hint, PartIndex};
 use am_list_index::ListIndex;
 use am_record::{Entry, Key, NoMemory, Range, Value};
 use std::alloc::Global;
@@ -21,7 +22,7 @@ fn numbered(part: u32, number: u64) -> Entry {
 // Adds the entry, unless its place is taken.
 fn add<I: PartIndex>(index: &mut I, entry: Entry) -> Result<(), NoMemory> {
     if index.find(entry.part, entry.key).is_none() {
-        index.insert(entry)?;
+        index.insert(entry, Hint::none())?;
     }
     Ok(())
 }
@@ -61,7 +62,7 @@ fn rows_of<I: PartIndex>(
     let range = Range::new(Key::of_u64(lo), Key::of_u64(hi)).expect(rt, "in order");
     let mut rows = Vec::new(alloc);
     index
-        .copy_rows(1, range, max, &mut rows)
+        .copy_rows(1, range, max, &mut rows, Hint::none())
         .expect(rt, "memory");
     rows
 }
@@ -78,7 +79,7 @@ fn rows_back_of<I: PartIndex>(
     let range = Range::new(Key::of_u64(lo), Key::of_u64(hi)).expect(rt, "in order");
     let mut rows = Vec::new(alloc);
     index
-        .copy_rows_back(1, range, max, &mut rows)
+        .copy_rows_back(1, range, max, &mut rows, Hint::none())
         .expect(rt, "memory");
     rows
 }
@@ -359,7 +360,7 @@ fn what_has_no_room_in_a_leaf_does_not_go_between(rt: HostRuntime) {
     let more = [numbered(0, 11), long_value, numbered(0, 13)];
     goes_between(&rt, alloc, &mut tens(&rt, alloc), &more, 1);
     let mut roomy = tens(&rt, alloc);
-    let made = roomy.make_room(0, Key::of_u64(10), 40);
+    let made = roomy.make_room(0, Key::of_u64(10), 40, Hint::none());
     assert!(rt; made.is_ok());
     goes_between(&rt, alloc, &mut roomy, &more, 3);
 
@@ -450,4 +451,78 @@ fn a_stretch_parts_behind_a_leaf_with_room(rt: HostRuntime) {
         add(&mut list, entry).expect(&rt, "memory");
     }
     assert!(rt; same_walks(&tree, &list, 0, 200));
+}
+
+// Each number's hint, of those that stand in the index and of those between.
+fn hints_of<I: PartIndex>(rt: &impl Abort, alloc: Global, index: &I, last: u64) -> Vec<Hint> {
+    let mut hints = Vec::new(alloc);
+    for number in 0..last {
+        let (_, hint) = index.look(0, Key::of_u64(number), Hint::none());
+        hints.push(hint).expect(rt, "memory");
+    }
+    hints
+}
+
+// Whether each number is found as without a hint, by its own hint and by those of the numbers so much before and after.
+fn hints_change_nothing<I: PartIndex>(index: &I, hints: &[Hint], last: u64) -> bool {
+    (0..last).all(|number| {
+        let key = Key::of_u64(number);
+        let found = index.find(0, key);
+        let at = number as usize;
+        [at, at.saturating_sub(1), at + 1, at / 2]
+            .iter()
+            .all(|other| {
+                let hint = hints.get(*other).copied().unwrap_or(Hint::none());
+                index.look(0, key, hint).0 == found
+            })
+    })
+}
+
+// A hint of the entry itself, of its neighbour and one from before a change lead to the same answers and changes.
+#[test]
+fn hints_cost_time_at_most(rt: HostRuntime) {
+    let alloc = rt.alloc();
+    let mut tree = BTree::new(alloc).expect(&rt, "memory");
+    let mut list = ListIndex::new(alloc);
+    add_tens_with_gaps(&rt, &mut tree);
+    add_tens_with_gaps(&rt, &mut list);
+    let hints = hints_of(&rt, alloc, &tree, 1100);
+    assert!(rt; hints_change_nothing(&tree, &hints, 1100));
+    assert!(rt; hints_change_nothing(&list, &hints, 1100));
+
+    for number in 0..1100_u64 {
+        let entry = numbered(0, number);
+        let hint = hints[(number as usize * 7) % 1100];
+        if tree.find(0, entry.key).is_some() {
+            let was_live = tree.set(0, entry.key, byte(b'n'), true, hint);
+            assert!(rt; list.set(0, entry.key, byte(b'n'), true, hint) == was_live);
+        } else {
+            let hint = hints[number as usize];
+            tree.insert(entry, hint).expect(&rt, "memory");
+            list.insert(entry, hint).expect(&rt, "memory");
+        }
+    }
+    assert!(rt; hints_change_nothing(&tree, &hints, 1100));
+    assert!(rt; same_walks(&tree, &list, 0, 1200));
+    assert!(rt; tree.next_ghost(0, Key::least()) == list.next_ghost(0, Key::least()));
+}
+
+// Hints that were looked for side by side lead where one by one did; of more than sixteen the last are none.
+#[test]
+fn sixteen_places_are_looked_for_at_once(rt: HostRuntime) {
+    let alloc = rt.alloc();
+    let mut tree = BTree::new(alloc).expect(&rt, "memory");
+    add_tens_with_gaps(&rt, &mut tree);
+    for count in [0, 1, 15, 16, 17] {
+        let mut places = Vec::new(alloc);
+        for number in 0..count {
+            places
+                .push((0, Key::of_u64(61 * number)))
+                .expect(&rt, "memory");
+        }
+        let hints = tree.hints(&places);
+        for (place, hint) in places.iter().zip(&hints) {
+            assert!(rt; tree.look(0, place.1, *hint).0 == tree.find(0, place.1));
+        }
+    }
 }

@@ -1,7 +1,7 @@
 //! What a transaction changed, taken back.
 
 use crate::entries::{byte, dead, live, over};
-use am_index::PartIndex;
+use am_index::{Hint, PartIndex};
 use am_parts::Parts;
 use am_record::{Entry, Key, NoMemory};
 use am_undo::{Note, UndoLog};
@@ -19,12 +19,15 @@ fn insert<I: PartIndex + Drop>(
         return Ok(());
     }
     log.reserve_one()?;
-    parts.add(Entry {
-        part: 0,
-        key,
-        value,
-        is_ghost: false,
-    })?;
+    parts.add(
+        Entry {
+            part: 0,
+            key,
+            value,
+            is_ghost: false,
+        },
+        Hint::none(),
+    )?;
     log.note(Note::New(key));
     Ok(())
 }
@@ -48,7 +51,7 @@ fn change<I: PartIndex + Drop>(
         }
     }
     log.reserve_one()?;
-    parts.set(part, key, new, is_ghost);
+    parts.set(part, key, new, is_ghost, Hint::none());
     log.note(Note::Before {
         part,
         key,

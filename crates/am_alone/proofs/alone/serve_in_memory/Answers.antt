@@ -5,7 +5,7 @@ use Rattle.am_alone.specs.Solo.{IsSpoken}
 use Rattle.am_session.proofs.Ends.{ends_by}
 use Rattle.am_alone.proofs.alone.serve_in_memory.Goals as goal
 
--- what was taken is a beginning of the bytes, and what was given stands behind what was there
+-- what was taken is a beginning of the bytes, and what was given stands after what was there
 pub returns-clause-wrote : goal.returns-clause-wrote
 returns-clause-wrote g c =
     let left = c.serve_alone.new.source.rest in

@@ -4,7 +4,7 @@ use Rattle.std.specs.List.{prefix_len}
 use Rattle.am_record.specs.EntryOrder.{Place}
 use Rattle.am_index.proofs.Searches.{whole_rest}
 use Rattle.am_btree.specs.Separators.{SeparatorsRise, IsReach}
-use Rattle.am_btree.proofs.Fronts.{reach_whole, both_within, these_rise, reach_by_fronts}
+use Rattle.am_btree.proofs.Fronts.{reach_whole, their_fronts_rise, both_within, these_rise, reach_by_fronts}
 use Rattle.am_btree.proofs.separators.search.Goals as goal
 
 pub returns-then-last-front : goal.returns-then-last-front
@@ -53,3 +53,9 @@ returns c =
     c.front-front.ensures n m c.count_lower-lower.ensures next c.reached-2.result
     (subst (λ k. IsReach (take k (drop n c.args.separators.now)) p.0 p.1 c.reached-2.result) {x = n + m - n} {y = m}
     (omega arith) c.reached-2.ensures)
+
+pub count_lower-lower-requires : goal.count_lower-lower-requires
+count_lower-lower-requires c = record {
+  rising = their_fronts_rise c.fronts_follow_keys.ensures c.args.separators.now c.args.fronts.now c.requires.rising
+      c.requires.fronts;
+}

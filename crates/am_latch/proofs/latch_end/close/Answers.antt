@@ -18,7 +18,7 @@ use Rattle.am_latch.proofs.latch_end.close.Goals as goal
 use Rattle.am_latch.proofs.latch_end.close.Goals.{then-len-count-via-then-len-count}
 use Rattle.am_latch.proofs.latch_end.close.Goals.{then-len-count-via-else-len-count+then-not-in_order}
 
--- what was taken is what was handed out, and what is kept stands behind it
+-- what was taken is what was handed out, and what is kept stands after it
 whole_trace : (g : Over) (c : goal.After-drop-table g) →
     c.args.taker ++ c.into_parts-trace.result.0.items ≡ c.engine.inside.engine.trace
 whole_trace g c =

@@ -3,9 +3,9 @@ use Rattle.am_index.specs.Rooms.{KeepRoom}
 use Rattle.am_effect.specs.Operations.{with_ghosts, notes_of_ghosts}
 use Rattle.am_operations.proofs.delete_range.bury_all.Given as goal
 
-abbrev pub invariant-loop-row : goal.invariant-loop-row
-invariant-loop-row g l =
-    let left = drop l.row-index l.rows in
+abbrev pub invariant-loop-at : goal.invariant-loop-at
+invariant-loop-at g l =
+    let left = drop l.at l.rows in
     record {
       entries : with_ghosts left l.parts.entries ≡ with_ghosts l.rows l.fn.parts.entries;
       notes : notes_of_ghosts left l.parts.entries ++ l.log.notes ≡

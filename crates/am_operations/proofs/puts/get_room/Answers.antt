@@ -10,26 +10,26 @@ use Rattle.am_operations.specs.Updates.{IsPlaced, HasPlace}
 use Rattle.am_operations.proofs.Updates.{all_keep_place}
 use Rattle.am_operations.proofs.puts.get_room.Goals as goal
 
-pub loop-update-preserved : goal.loop-update-preserved
-loop-update-preserved g c =
+pub loop-at-preserved : goal.loop-at-preserved
+loop-at-preserved g c =
     let us = c.args.updates.now in
-    let at = c.loop-update.update-index in
-    let u = c.update-item.result in
-    let was = c.loop-update.parts in
+    let at = c.loop-at.at in
+    let u = c.index-updates-at.result in
+    let was = c.loop-at.parts in
     let now = c.make_room.new.self in
     let got = c.in_ok-make_room.ensures in
-    let before = c.loop-update.invariant in
+    let before = c.loop-at.invariant in
     let same = got.entries in
     let here : IsPlaced now.entries u = subst (λ l. IsPlaced l u) (sym (same ∙ before.entries))
-    (subst (IsPlaced c.args.parts.now.entries) (sym c.update-item.is)
-    (AllByRecursion-at (IsPlaced c.args.parts.now.entries) us at u c.requires.placed c.loop-update-test.true)) in
+    (subst (IsPlaced c.args.parts.now.entries) (sym c.index-updates-at.is)
+    (AllByRecursion-at (IsPlaced c.args.parts.now.entries) us at u c.requires.placed c.loop-at-test.true)) in
     record {
       entries = same ∙ before.entries;
       runs = got.runs ∙ before.runs;
       rooms = keep_on c.args.parts.now.roomy was.roomy now.roomy was.entries now.entries before.rooms got.rooms
           (λ part key among stands. ap (λ l. is_some (find l part key)) (sym same) ∙ stands);
       done = subst (AllByRecursion (HasPlace now.entries now.roomy))
-          (ap (λ w. take at us ++ w ∷ []) c.update-item.is ∙ sym (take_more us at u c.loop-update-test.true))
+          (ap (λ w. take at us ++ w ∷ []) c.index-updates-at.is ∙ sym (take_more us at u c.loop-at-test.true))
           (AllByRecursion-push (HasPlace now.entries now.roomy) (take at us) u
           (all_keep_place was.entries now.entries was.roomy now.roomy got.rooms
           (λ w placed. subst (λ l. IsPlaced l w) (sym same) placed) (take at us) before.done)

@@ -4,11 +4,11 @@ use Rattle.am_index.specs.Rooms.{KeepRoom}
 use Rattle.am_operations.specs.Updates.{HasPlace}
 use Rattle.am_operations.proofs.puts.get_room.Given as goal
 
-abbrev pub invariant-loop-update : goal.invariant-loop-update
-invariant-loop-update g l =
+abbrev pub invariant-loop-at : goal.invariant-loop-at
+invariant-loop-at g l =
     record {
       entries : l.parts.entries ≡ l.fn.parts.entries;
       runs : l.parts.runs ≡ l.fn.parts.runs;
       rooms : KeepRoom l.fn.parts.roomy l.parts.roomy l.parts.entries;
-      done : AllByRecursion (HasPlace l.parts.entries l.parts.roomy) (take l.update-index l.updates);
+      done : AllByRecursion (HasPlace l.parts.entries l.parts.roomy) (take l.at l.updates);
     }

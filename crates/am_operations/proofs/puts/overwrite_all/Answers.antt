@@ -10,30 +10,30 @@ use Rattle.am_operations.proofs.puts.overwrite_all.Goals as goal
 
 pub overwrite-requires-clause-alone : goal.overwrite-requires-clause-alone
 overwrite-requires-clause-alone g c =
-    let u = c.update-item.result in
-    let left = subst (AllByRecursion (HasPlace c.loop-update.parts.entries c.loop-update.parts.roomy))
-    (whole c.args.updates.now c.loop-update.update-index u c.loop-update-test.true c.update-item.is)
-    c.loop-update.invariant.placed in
+    let u = c.index-updates-at.result in
+    let left = subst (AllByRecursion (HasPlace c.loop-at.parts.entries c.loop-at.parts.roomy))
+    (whole c.args.updates.now c.loop-at.at u c.loop-at-test.true c.index-updates-at.is)
+    c.loop-at.invariant.placed in
     record {
-      only = λ part value live. c.loop-update.invariant.one_place.one u.0.key part u.0.part value left.0.placed.value
+      only = λ part value live. c.loop-at.invariant.one_place.one u.0.key part u.0.part value left.0.placed.value
           live left.0.placed.live;
     }
 
-pub loop-update-preserved : goal.loop-update-preserved
-loop-update-preserved g c =
+pub loop-at-preserved : goal.loop-at-preserved
+loop-at-preserved g c =
     let us = c.args.updates.now in
-    let at = c.loop-update.update-index in
-    let u = c.update-item.result in
-    let was = c.loop-update.parts in
+    let at = c.loop-at.at in
+    let u = c.index-updates-at.result in
+    let was = c.loop-at.parts in
     let now = c.overwrite.new.parts in
     let done = c.overwrite.ensures in
-    let before = c.loop-update.invariant in
-    let all = whole us at u c.loop-update-test.true c.update-item.is in
+    let before = c.loop-at.invariant in
+    let all = whole us at u c.loop-at-test.true c.index-updates-at.is in
     let left = subst (AllByRecursion (HasPlace was.entries was.roomy)) all before.placed in
     record {
-      entries = updated_on us at u c.loop-update-test.true c.update-item.is was.entries now.entries done.entries ∙
+      entries = updated_on us at u c.loop-at-test.true c.index-updates-at.is was.entries now.entries done.entries ∙
           before.entries;
-      notes = notes_on us at u c.loop-update-test.true c.update-item.is c.loop-update.log.notes
+      notes = notes_on us at u c.loop-at-test.true c.index-updates-at.is c.loop-at.log.notes
           c.overwrite.new.log.notes done.notes ∙ before.notes;
       runs = done.runs ∙ before.runs;
       marks = done.marks ∙ before.marks;

@@ -6,9 +6,9 @@ use Rattle.am_effect.specs.Operations.{updated, notes_of_updates}
 use Rattle.am_operations.specs.Updates.{HasPlace}
 use Rattle.am_operations.proofs.puts.overwrite_all.Given as goal
 
-abbrev pub invariant-loop-update : goal.invariant-loop-update
-invariant-loop-update g l =
-    let left = drop l.update-index l.updates in
+abbrev pub invariant-loop-at : goal.invariant-loop-at
+invariant-loop-at g l =
+    let left = drop l.at l.updates in
     record {
       entries : updated left l.parts.entries ≡ updated l.updates l.fn.parts.entries;
       notes : notes_of_updates left ++ l.log.notes ≡ notes_of_updates l.updates ++ l.fn.log.notes;

@@ -47,7 +47,7 @@ overwrite_all-requires-clause-placed g c =
     let above = subst (λ n. NothingAbove n got.entries) (sym c.in_ok-get_room.ensures.runs)
     (subst (NothingAbove c.args.parts.now.runs) (sym c.in_ok-get_room.ensures.entries) c.requires.above) in
     subst (AllByRecursion (HasPlace now.entries now.roomy))
-    (c.as_slice-2.ensures.value ∙ sym c.as_slice-3.ensures.value)
+    (c.as_slice-2.ensures.value ∙ sym c.as_slice-4.ensures.value)
     (all_keep_place got.entries now.entries got.roomy now.roomy c.in_ok-load_new.ensures.rooms
     (λ u placed. subst (λ l. IsPlaced l u) (sym c.in_ok-load_new.ensures.entries)
     (run_placed got.entries got.runs fresh rise above u placed))
@@ -60,16 +60,16 @@ returns-clause-done g c =
     let got = c.in_ok-get_room.ensures in
     let loaded = c.in_ok-load_new.ensures in
     let done = c.overwrite_all.ensures in
-    let us = c.as_slice-3.ensures.value ∙ c.in_ok-updates.ensures.updates ∙
+    let us = c.as_slice-4.ensures.value ∙ c.in_ok-updates.ensures.updates ∙
     ap (λ l. updates l es) c.as_slice.ensures in
     let new = c.in_ok-updates.ensures.fresh ∙ ap (λ l. new_records l m) c.as_slice.ensures in
     record {
       said = refl;
-      entries = done.entries ∙ ap (updated c.as_slice-3.result.now) loaded.entries ∙
+      entries = done.entries ∙ ap (updated c.as_slice-4.result.now) loaded.entries ∙
           (λ i. updated (us i) (with_run (got.runs i + 1) (new i) (got.entries i)));
       runs = done.runs ∙ loaded.runs ∙ (λ i. got.runs i + cond (nat_lt 0 (length (new i))) 1 0) ∙
           ap (λ n. c.args.parts.now.runs + n) (made_of_new c.args.pairs m);
-      notes = done.notes ∙ ap (λ ns. notes_of_updates c.as_slice-3.result.now ++ ns) loaded.notes
+      notes = done.notes ∙ ap (λ ns. notes_of_updates c.as_slice-4.result.now ++ ns) loaded.notes
           ∙ (λ i. notes_of_updates (us i) ++ (note_of_run (got.runs i + 1) (new i) ++ c.in_ok-reserve.ensures.notes i))
           ∙ sym (append_assoc (notes_of_updates (updates c.args.pairs es))
           (note_of_run (c.args.parts.now.runs + 1) (new_records c.args.pairs m)) c.args.log.now.notes);
@@ -86,5 +86,5 @@ returns-clause-rooms g c =
     (subst (λ l. KeepRoom c.args.parts.now.roomy got.roomy l) c.in_ok-get_room.ensures.entries
     c.in_ok-get_room.ensures.rooms)
     c.in_ok-load_new.ensures.rooms c.overwrite_all.ensures.rooms
-    (λ part key stands. sym (stood_updated c.as_slice-3.result.now now.entries part key) ∙
+    (λ part key stands. sym (stood_updated c.as_slice-4.result.now now.entries part key) ∙
     ap (λ l. is_some (find l part key)) (sym c.overwrite_all.ensures.entries) ∙ stands)

@@ -1,15 +1,11 @@
 use Rattle.std.proofs.Common.{subst}
 use Rattle.am_directory.specs.declared.residence.Residence.{Residence}
 use Rattle.am_parts.specs.Residences.{Allows}
+use Rattle.am_parts.proofs.KeyLooks.{lives_not}
 use Rattle.am_parts.proofs.key_look.live_by.Goals as goal
 
 pub returns-in-Nowhere-clause-absent : goal.returns-in-Nowhere-clause-absent
-returns-in-Nowhere-clause-absent g c =
-    record {
-      none = λ part value some live.
-          subst (λ (r : Residence). Allows r part) c.in-Nowhere.is
-          (c.requires.known part (record { is_run = some; value = value; live = live }));
-    }
+returns-in-Nowhere-clause-absent g c = lives_not c.args.residence c.requires.known c.in-Nowhere.is
 
 pub live_in_place-requires-clause-known : goal.live_in_place-requires-clause-known
 live_in_place-requires-clause-known g c =

@@ -5,7 +5,7 @@ use Rattle.am_parts.proofs.key_look.live_in_any_run.Goals as goal
 
 pub returns-then-is_some-clause-live : goal.returns-then-is_some-clause-live
 returns-then-is_some-clause-live g c =
-    found_live c.requires.sound _ c.args.key c.find.ensures.found c.live_at-found.result
+    found_live c.requires.sound _ c.args.key c.look-slot.ensures.found c.live_at-found.result
     c.live_at-found.ensures.live
 
 pub returns-clause-absent : goal.returns-clause-absent

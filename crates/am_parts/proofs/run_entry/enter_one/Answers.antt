@@ -1,4 +1,4 @@
-use Rattle.std.proofs.Common.{◌≡◌, ◌+◌, sym, subst, ◌∙◌}
+use Rattle.std.proofs.Common.{◌≡◌, ◌∷◌, sym, subst, ◌∙◌}
 use Rattle.am_record.specs.KeyNumber.{key_number}
 use Rattle.std.proofs.lemmas.Bool.{true≢false, false≢true}
 use Rattle.am_directory.specs.declared.residence.Residence.{Residence}
@@ -41,6 +41,6 @@ returns g c =
       live = λ no. absurd (true≢false no);
       same = λ no. absurd (true≢false no);
       lost = λ whole. c.enter-2.ensures.lost (c.enter_first-residence.ensures.lost whole);
-      room = λ keys has. c.enter-2.ensures.room keys
-          (subst (λ (r : Residences). HasRoomFor r (keys + 1)) (sym same) has);
+      room = λ numbers has. c.enter-2.ensures.room numbers
+          (subst (λ (r : Residences). HasRoomFor r (c.args.newcomer.number ∷ numbers)) (sym same) has);
     }

@@ -1,11 +1,12 @@
-use Rattle.std.proofs.Common.{◌≡◌, ◌≢◌, ◌+◌, ◌≤◌, ℕ, None, length, get_or, refl, sym, inl, ap, ◌∙◌, subst}
+use Rattle.std.proofs.Common.{◌≡◌, ◌≢◌, ◌+◌, ◌-◌, ◌≤◌, ℕ, List, None, length, drop, get_or, refl, sym, inl, ap, ◌∙◌}
+use Rattle.std.proofs.Common.{subst}
 use Rattle.std.proofs.Common.{⊎_elim, arith}
 use Rattle.std.proofs.lemmas.Bool.{cases_eq, false≢true}
 use Rattle.std.proofs.lemmas.List.{get_or_default}
 use Rattle.std.proofs.lemmas.Option.{none-some}
 use Rattle.std.specs.FinMap.{get}
 use Rattle.am_record.specs.OrderedKey.{OrderedKey}
-use Rattle.am_record.specs.KeyNumber.{key_number}
+use Rattle.am_record.specs.KeyNumber.{key_number, numbers_of}
 use Rattle.am_record.specs.declared.hash_key.HashKey.{HashKey}
 use Rattle.am_record.proofs.FirstRows.{Record}
 use Rattle.am_record.proofs.Lists.{AllByRecursion-at}
@@ -14,9 +15,10 @@ use Rattle.am_index.proofs.Searches.{all_drop, all_take}
 use Rattle.am_parts.specs.declared.residences.Residences.{Residences}
 use Rattle.am_parts.specs.Partitions.{LivesInNoRun}
 use Rattle.am_directory.specs.Tables.{residence_of}
-use Rattle.am_parts.specs.Residences.{Allows, LivesWith, KeepNoneWith, Tell}
-use Rattle.am_parts.proofs.NotedKeys.{none_noted, one_noted, first_noted, sorted_taken}
+use Rattle.am_parts.specs.Residences.{Allows, HasRoomFor, LivesWith, KeepNoneWith, Tell}
+use Rattle.am_parts.proofs.NotedKeys.{none_noted, one_noted, first_noted, next_number, sorted_taken}
 use Rattle.am_parts.proofs.KeptWords.{none_entered, one_entered, first_entered}
+use Rattle.am_directory.proofs.PieceOf.{room_for_first}
 use Rattle.am_parts.proofs.run_entry.enter_run.Goals as goal
 
 pub loop-at-init : goal.loop-at-init
@@ -26,7 +28,7 @@ loop-at-init g c = record {
   kept = none_entered (g.I.PartIndex.entries c.args.index.now) c.args.part c.args.pairs.now c.args.residences.now
       c.requires.kept;
   dead = λ i r lt. absurd (omega (arith, lt));
-  room = λ keys le. omega (arith, le, c.requires.room);
+  room = c.requires.room;
   reached = omega arith;
   hash = refl;
   numbers = record {
@@ -37,9 +39,6 @@ loop-at-init g c = record {
   free = λ no i r low lt. absurd (false≢true (sym c.none-ahead.ensures.free ∙ no));
   lost = λ whole. whole;
 }
-
-pub enter_one-requires-clause-room : goal.enter_one-requires-clause-room
-enter_one-requires-clause-room g c = c.loop-at.invariant.room 1 (omega (arith, c.loop-at-test.true))
 
 pub forget-requires : goal.forget-requires
 forget-requires g c = record { rising = sorted_taken c.loop-at.at c.args.pairs.now c.requires.sorted }
@@ -79,8 +78,12 @@ loop-at-preserved g c =
     let es = g.I.PartIndex.entries c.args.index.now in
     let at = c.loop-at.at in
     let pair = c.index-pairs-at.result in
-    let numbers = c.renewed-ahead.ensures.numbers c.args.residences.now.hash c.loop-at.invariant.hash
-    c.loop-at.invariant.numbers in
+    let hash = c.args.residences.now.hash in
+    let numbers = c.renewed-ahead.ensures.numbers hash c.loop-at.invariant.hash c.loop-at.invariant.numbers in
+    let number = get_or c.renewed-ahead.result.numbers (at - c.renewed-ahead.result.begin) 0 in
+    let theirs : number ≡ key_number hash pair.0 = numbers.theirs at 0 pair numbers.begun
+    c.renewed-ahead.ensures.reaches ∙
+    ap (λ (q : Record). key_number hash q.0) (sym c.index-pairs-at.is) in
     record {
       told = one_noted es c.args.part c.args.pairs.now c.loop-at.residences c.enter_one.new.residences at pair
           c.loop-at-test.true c.index-pairs-at.is (c.enter_one.ensures.entered c.if-not-enter_one.false)
@@ -95,7 +98,10 @@ loop-at-preserved g c =
           (c.enter_one.ensures.dead c.if-not-enter_one.false))
           (λ (apart : i ≢ at). c.loop-at.invariant.dead i r (omega (arith, lt)))
           (cases_eq i at);
-      room = λ keys le. c.enter_one.ensures.room keys (c.loop-at.invariant.room (keys + 1) (omega (arith, le)));
+      room = c.enter_one.ensures.room (drop (at + 1) (numbers_of hash c.args.pairs.now))
+          (subst (λ (ns : List ℕ). HasRoomFor c.loop-at.residences ns)
+          (next_number hash c.args.pairs.now at pair number c.loop-at-test.true c.index-pairs-at.is theirs)
+          c.loop-at.invariant.room);
       reached = omega (arith, c.renewed-ahead.ensures.reaches);
       hash = (c.enter_one.ensures.entered c.if-not-enter_one.false).hash ∙ c.loop-at.invariant.hash;
       numbers = record { begun = omega (arith, numbers.begun); few = numbers.few; theirs = numbers.theirs };
@@ -125,6 +131,20 @@ enter_one-requires-clause-number g c =
     numbers.theirs c.loop-at.at 0 pair numbers.begun c.renewed-ahead.ensures.reaches ∙
     ap (λ (q : Record). key_number c.args.residences.now.hash q.0) (sym c.index-pairs-at.is) ∙
     ap (λ (h : HashKey). key_number h pair.0) (sym c.loop-at.invariant.hash)
+
+-- and it is the next for which room is left
+pub enter_one-requires-clause-room : goal.enter_one-requires-clause-room
+enter_one-requires-clause-room g c =
+    let rs = c.args.pairs.now in let at = c.loop-at.at in let hash = c.args.residences.now.hash in
+    let pair = c.index-pairs-at.result in
+    let numbers = c.renewed-ahead.ensures.numbers hash c.loop-at.invariant.hash c.loop-at.invariant.numbers in
+    let number = get_or c.renewed-ahead.result.numbers (at - c.renewed-ahead.result.begin) 0 in
+    let theirs : number ≡ key_number hash pair.0 = numbers.theirs at 0 pair numbers.begun
+    c.renewed-ahead.ensures.reaches ∙
+    ap (λ (q : Record). key_number hash q.0) (sym c.index-pairs-at.is) in
+    let next = next_number hash rs at pair number c.loop-at-test.true c.index-pairs-at.is theirs in
+    room_for_first c.loop-at.residences.directory number (drop (at + 1) (numbers_of hash rs))
+    (subst (λ (ns : List ℕ). HasRoomFor c.loop-at.residences ns) next c.loop-at.invariant.room)
 
 pub enter_one-requires-clause-known : goal.enter_one-requires-clause-known
 enter_one-requires-clause-known g c = λ run lives.

@@ -1,4 +1,5 @@
-use Rattle.std.proofs.Common.{◌≡◌, ◌+◌, ◌<◌, ◌≤◌, ℕ, false, length, get_or}
+use Rattle.std.proofs.Common.{◌≡◌, ◌<◌, ◌≤◌, ℕ, false, drop, get_or}
+use Rattle.am_record.specs.KeyNumber.{numbers_of}
 use Rattle.am_record.proofs.FirstRows.{Record}
 use Rattle.am_parts.specs.Ahead.{AreFreeAhead, AreNumbersAhead}
 use Rattle.am_parts.specs.Partitions.{LivesInNoRun}
@@ -10,7 +11,7 @@ invariant-loop-at g l = record {
   told : Tell (LivesWith (g.I.PartIndex.entries l.index) l.part l.pairs 0 l.at) l.residences;
   kept : KeepNoneWith (g.I.PartIndex.entries l.index) l.part l.pairs 0 l.at l.residences;
   dead : (i : ℕ) (r : Record) → i < l.at → LivesInNoRun (g.I.PartIndex.entries l.index) (get_or l.pairs i r).0;
-  room : (keys : ℕ) → keys + l.at ≤ length l.pairs → HasRoomFor l.residences keys;
+  room : HasRoomFor l.residences (drop l.at (numbers_of l.fn.residences.hash l.pairs));
   reached : l.at ≤ l.ahead.end;
   hash : l.residences.hash ≡ l.fn.residences.hash;
   numbers : AreNumbersAhead l.fn.residences.hash l.pairs l.at l.ahead;

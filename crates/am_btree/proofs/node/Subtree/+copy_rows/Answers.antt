@@ -14,13 +14,13 @@ use Rattle.am_btree.proofs.node.Subtree.+copy_rows.Goals as goal
 use Rattle.am_btree.proofs.node.Subtree.+copy_rows.Goals.{then-len-max-via-then-len-max}
 use Rattle.am_btree.proofs.node.Subtree.+copy_rows.Goals.{then-len-max-via-else-len-max+then-not-is_reached}
 
-pub child_for-at-requires-clause-rising : goal.child_for-at-requires-clause-rising
-child_for-at-requires-clause-rising t c =
+pub child_near-at-requires-clause-rising : goal.child_near-at-requires-clause-rising
+child_near-at-requires-clause-rising t c =
     let inner = subst IsTree c.in-Inner.is c.self.invariant in
     they_rise c.in-Inner.separators c.in-Inner.children.items _ inner
 
-pub child_for-at-requires-clause-some : goal.child_for-at-requires-clause-some
-child_for-at-requires-clause-some t c =
+pub child_near-at-requires-clause-some : goal.child_near-at-requires-clause-some
+child_near-at-requires-clause-some t c =
     let inner = subst IsTree c.in-Inner.is c.self.invariant in
     omega (
       arith,
@@ -29,10 +29,10 @@ child_for-at-requires-clause-some t c =
 
 pub loop-at-init : goal.loop-at-init
 loop-at-init t c =
-    let ls = c.in-Inner.separators in let ks = c.in-Inner.children.items in let at = c.child_for-at.result in
+    let ls = c.in-Inner.separators in let ks = c.in-Inner.children.items in let at = c.child_near-at.result in
     let inner = subst IsTree c.in-Inner.is c.self.invariant in
     let child = subst (λ k. IsChildFor ls c.args.part k at) c.lo.ensures.value
-    c.child_for-at.ensures in
+    c.child_near-at.ensures in
     record {
       fits = c.requires;
       room = omega arith;

@@ -13,8 +13,8 @@ use Rattle.am_btree.proofs.node.Subtree.+copy_rows_back.Goals as goal
 use Rattle.am_btree.proofs.node.Subtree.+copy_rows_back.Goals.{then-len-max-via-then-len-max}
 use Rattle.am_btree.proofs.node.Subtree.+copy_rows_back.Goals.{then-len-max-via-else-len-max+then-is_reached}
 
-pub child_for-end-requires-clause-rising : goal.child_for-end-requires-clause-rising
-child_for-end-requires-clause-rising t c =
+pub child_near-end-requires-clause-rising : goal.child_near-end-requires-clause-rising
+child_near-end-requires-clause-rising t c =
     let inner = subst IsTree c.in-Inner.is c.self.invariant in
     they_rise c.in-Inner.separators c.in-Inner.children.items _ inner
 
@@ -24,16 +24,16 @@ overflow_add-end t c =
     omega (
       arith,
       as_many c.in-Inner.separators c.in-Inner.children.items _ inner,
-      c.child_for-end.ensures.in_range,
+      c.child_near-end.ensures.in_range,
       inner.most,
     )
 
 pub loop-at-init : goal.loop-at-init
 loop-at-init t c =
-    let ls = c.in-Inner.separators in let ks = c.in-Inner.children.items in let at = c.child_for-end.result in
+    let ls = c.in-Inner.separators in let ks = c.in-Inner.children.items in let at = c.child_near-end.result in
     let inner = subst IsTree c.in-Inner.is c.self.invariant in
     let child = subst (λ k. IsChildFor ls c.args.part k at) c.hi.ensures.value
-    c.child_for-end.ensures in
+    c.child_near-end.ensures in
     record {
       fits = c.requires;
       room = omega arith;
@@ -47,7 +47,7 @@ index-requires t c =
     omega (
       arith,
       as_many c.in-Inner.separators c.in-Inner.children.items _ inner,
-      c.child_for-end.ensures.in_range,
+      c.child_near-end.ensures.in_range,
       c.loop-at.auto.at,
       c.loop-at-test.true,
       c.in-Inner.children.ok.0,
@@ -62,7 +62,7 @@ copy_rows_back-requires t c =
     let deep = one_below ls ks _ inner next k (omega (
       arith,
       as_many ls ks _ inner,
-      c.child_for-end.ensures.in_range,
+      c.child_near-end.ensures.in_range,
       c.loop-at.auto.at,
       c.loop-at-test.true,
     )) c.index.ensures in
@@ -80,7 +80,7 @@ returns-then-len-max-clause-copied t c =
     let within : next < length ks = omega (
       arith,
       as_many ls ks _ inner,
-      c.child_for-end.ensures.in_range,
+      c.child_near-end.ensures.in_range,
       c.loop-at.auto.at,
       c.loop-at-test.true,
     ) in
@@ -115,7 +115,7 @@ loop-at-preserved t c =
     let within : next < length ks = omega (
       arith,
       as_many ls ks _ inner,
-      c.child_for-end.ensures.in_range,
+      c.child_near-end.ensures.in_range,
       c.loop-at.auto.at,
       c.loop-at-test.true,
     ) in

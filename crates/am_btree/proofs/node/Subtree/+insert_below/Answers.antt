@@ -25,8 +25,8 @@ if_some_map : {X : Type 0} (P Q : X → Type 0) → ((x : X) → P x → Q x) �
 if_some_map P Q f None h = h
 if_some_map P Q f (Some x) h = f x h
 
-pub reached-reach-requires : goal.reached-reach-requires
-reached-reach-requires t c =
+pub reached_near-reach-requires : goal.reached_near-reach-requires
+reached_near-reach-requires t c =
     let inner = subst IsTree c.in-Inner.is c.self.invariant in
     children_rise c.in-Inner.separators c.in-Inner.children.items inner.children.parted inner.children.filled
 
@@ -38,7 +38,7 @@ index_mut-child-requires t c =
     omega (
       arith,
       c.saturating_sub-at.ensures,
-      c.reached-reach.ensures.in_range,
+      c.reached_near-reach.ensures.in_range,
       c.in-Inner.children.ok.0,
     )
 
@@ -52,7 +52,7 @@ insert_below-requires t c =
     (omega (
       arith,
       c.saturating_sub-at.ensures,
-      c.reached-reach.ensures.in_range,
+      c.reached_near-reach.ensures.in_range,
       parted_lengths ls ks inner.children.parted,
       inner.some,
     ))
@@ -63,10 +63,10 @@ insert_below-requires t c =
 pub returns-in_err-grown-in-Inner-clause-taken : goal.returns-in_err-grown-in-Inner-clause-taken
 returns-in_err-grown-in-Inner-clause-taken t c =
     let x = c.args.entry.now in let ls = c.in-Inner.separators in let ks = c.in-Inner.children.items in
-    let n = c.reached-reach.result in
+    let n = c.reached_near-reach.result in
     let inner = subst IsTree c.in-Inner.is c.self.invariant in
     let seen : c.args.self.now ≡ inner_shape ks = sym c.self.view_is ∙ ap shape_of c.in-Inner.is in
-    let r = c.reached-reach.ensures in
+    let r = c.reached_near-reach.ensures in
     let at_is : c.saturating_sub-at.result ≡ before n = c.saturating_sub-at.ensures ∙ sym (before_is n) in
     let k = c.index_mut-child.result.now in
     let here : k ≡ get_or ks (before n) k = c.index_mut-child.ensures.value ∙ ap (λ (j : ℕ). get_or ks j k) at_is in
@@ -83,10 +83,10 @@ returns-in_err-grown-in-Inner-clause-taken t c =
 pub returns-in_default-clause-absent : goal.returns-in_default-clause-absent
 returns-in_default-clause-absent t c =
     let x = c.args.entry.now in let ls = c.in-Inner.separators in let ks = c.in-Inner.children.items in
-    let n = c.reached-reach.result in
+    let n = c.reached_near-reach.result in
     let inner = subst IsTree c.in-Inner.is c.self.invariant in
     let seen : c.args.self.now ≡ inner_shape ks = sym c.self.view_is ∙ ap shape_of c.in-Inner.is in
-    let r = c.reached-reach.ensures in
+    let r = c.reached_near-reach.ensures in
     let at_is : c.saturating_sub-at.result ≡ before n = c.saturating_sub-at.ensures ∙ sym (before_is n) in
     let k = c.index_mut-child.result.now in
     let here : k ≡ get_or ks (before n) k = c.index_mut-child.ensures.value ∙ ap (λ (j : ℕ). get_or ks j k) at_is in
@@ -103,10 +103,10 @@ returns-clause-absent t c = elim c.match-self.branch [
       (find s.entries c.args.entry.now.part c.args.entry.now.key ≡ None)) (sym seen) w.insert_in_leaf.ensures.absent)
   | in-Inner+in_ok-more-in-Inner+in_ok-grown-in-Inner+in-Some w ↦
       let x = c.args.entry.now in let ls = w.in-Inner.separators in let ks = w.in-Inner.children.items in
-      let n = w.reached-reach.result in
+      let n = w.reached_near-reach.result in
       let inner = subst IsTree w.in-Inner.is c.self.invariant in
       let seen : c.args.self.now ≡ inner_shape ks = sym c.self.view_is ∙ ap shape_of w.in-Inner.is in
-      let r = w.reached-reach.ensures in
+      let r = w.reached_near-reach.ensures in
       let at_is : w.saturating_sub-at.result ≡ before n = w.saturating_sub-at.ensures ∙ sym (before_is n) in
       let k = w.index_mut-child.result.now in
       let here : k ≡ get_or ks (before n) k = w.index_mut-child.ensures.value ∙ ap (λ (j : ℕ). get_or ks j k) at_is in
@@ -119,10 +119,10 @@ returns-clause-absent t c = elim c.match-self.branch [
 pub invariant_of-self-in_default : goal.invariant_of-self-in_default
 invariant_of-self-in_default t c =
     let x = c.args.entry.now in let ls = c.in-Inner.separators in let ks = c.in-Inner.children.items in
-    let n = c.reached-reach.result in let d = depth_of ks in
+    let n = c.reached_near-reach.result in let d = depth_of ks in
     let inner = subst IsTree c.in-Inner.is c.self.invariant in
     let seen : c.args.self.now ≡ inner_shape ks = sym c.self.view_is ∙ ap shape_of c.in-Inner.is in
-    let r = c.reached-reach.ensures in
+    let r = c.reached_near-reach.ensures in
     let at_is : c.saturating_sub-at.result ≡ before n = c.saturating_sub-at.ensures ∙ sym (before_is n) in
     let k = c.index_mut-child.result.now in
     let here : k ≡ get_or ks (before n) k = c.index_mut-child.ensures.value ∙ ap (λ (j : ℕ). get_or ks j k) at_is in
@@ -142,10 +142,10 @@ invariant_of-self-in_default t c =
 pub returns-in_default-clause-ok : goal.returns-in_default-clause-ok
 returns-in_default-clause-ok t c =
     let x = c.args.entry.now in let ls = c.in-Inner.separators in let ks = c.in-Inner.children.items in
-    let n = c.reached-reach.result in let d = depth_of ks in
+    let n = c.reached_near-reach.result in let d = depth_of ks in
     let inner = subst IsTree c.in-Inner.is c.self.invariant in
     let seen : c.args.self.now ≡ inner_shape ks = sym c.self.view_is ∙ ap shape_of c.in-Inner.is in
-    let r = c.reached-reach.ensures in
+    let r = c.reached_near-reach.ensures in
     let at_is : c.saturating_sub-at.result ≡ before n = c.saturating_sub-at.ensures ∙ sym (before_is n) in
     let k = c.index_mut-child.result.now in
     let here : k ≡ get_or ks (before n) k = c.index_mut-child.ensures.value ∙ ap (λ (j : ℕ). get_or ks j k) at_is in
@@ -178,10 +178,10 @@ returns-in_default-clause-ok t c =
 pub add_child-requires-clause-children : goal.add_child-requires-clause-children
 add_child-requires-clause-children t c =
     let x = c.args.entry.now in let ls = c.in-Inner.separators in let ks = c.in-Inner.children.items in
-    let n = c.reached-reach.result in let d = depth_of ks in
+    let n = c.reached_near-reach.result in let d = depth_of ks in
     let inner = subst IsTree c.in-Inner.is c.self.invariant in
     let seen : c.args.self.now ≡ inner_shape ks = sym c.self.view_is ∙ ap shape_of c.in-Inner.is in
-    let r = c.reached-reach.ensures in
+    let r = c.reached_near-reach.ensures in
     let at_is : c.saturating_sub-at.result ≡ before n = c.saturating_sub-at.ensures ∙ sym (before_is n) in
     let k = c.index_mut-child.result.now in
     let here : k ≡ get_or ks (before n) k = c.index_mut-child.ensures.value ∙ ap (λ (j : ℕ). get_or ks j k) at_is in
@@ -205,17 +205,17 @@ add_child-requires-clause-pairs t c =
       arith,
       parted_lengths c.in-Inner.separators c.in-Inner.children.items inner.children.parted,
       ap length c.lower.ensures,
-      length_lowered c.in-Inner.separators c.reached-reach.result c.args.entry.now,
+      length_lowered c.in-Inner.separators c.reached_near-reach.result c.args.entry.now,
       c.in-Inner.children.ok.0,
     )
 
 pub add_child-requires-clause-in_range : goal.add_child-requires-clause-in_range
 add_child-requires-clause-in_range t c =
     let x = c.args.entry.now in let ls = c.in-Inner.separators in let ks = c.in-Inner.children.items in
-    let n = c.reached-reach.result in let d = depth_of ks in
+    let n = c.reached_near-reach.result in let d = depth_of ks in
     let inner = subst IsTree c.in-Inner.is c.self.invariant in
     let seen : c.args.self.now ≡ inner_shape ks = sym c.self.view_is ∙ ap shape_of c.in-Inner.is in
-    let r = c.reached-reach.ensures in
+    let r = c.reached_near-reach.ensures in
     let at_is : c.saturating_sub-at.result ≡ before n = c.saturating_sub-at.ensures ∙ sym (before_is n) in
     let k = c.index_mut-child.result.now in
     let here : k ≡ get_or ks (before n) k = c.index_mut-child.ensures.value ∙ ap (λ (j : ℕ). get_or ks j k) at_is in
@@ -235,10 +235,10 @@ returns-clause-ok t c = elim c.match-self.branch [
       w.insert_in_leaf.ensures.ok)
   | in-Inner+in_ok-more-in-Inner+in_ok-grown-in-Inner+in-Some w ↦
       let x = c.args.entry.now in let ls = w.in-Inner.separators in let ks = w.in-Inner.children.items in
-      let n = w.reached-reach.result in let d = depth_of ks in
+      let n = w.reached_near-reach.result in let d = depth_of ks in
       let inner = subst IsTree w.in-Inner.is c.self.invariant in
       let seen : c.args.self.now ≡ inner_shape ks = sym c.self.view_is ∙ ap shape_of w.in-Inner.is in
-      let r = w.reached-reach.ensures in
+      let r = w.reached_near-reach.ensures in
       let at_is : w.saturating_sub-at.result ≡ before n = w.saturating_sub-at.ensures ∙ sym (before_is n) in
       let k = w.index_mut-child.result.now in
       let here : k ≡ get_or ks (before n) k = w.index_mut-child.ensures.value ∙ ap (λ (j : ℕ). get_or ks j k) at_is in
@@ -293,13 +293,13 @@ returns-in_err-more-in-Inner-clause-err t c =
 pub invariant_of-self-in_err-grown-in-Inner : goal.invariant_of-self-in_err-grown-in-Inner
 invariant_of-self-in_err-grown-in-Inner t c =
     let x = c.args.entry.now in let ls = c.in-Inner.separators in let ks = c.in-Inner.children.items in
-    let n = c.reached-reach.result in
+    let n = c.reached_near-reach.result in
     let inner = subst IsTree c.in-Inner.is c.self.invariant in
     let at_is : c.saturating_sub-at.result ≡ before n = c.saturating_sub-at.ensures ∙ sym (before_is n) in
     let k = c.index_mut-child.result.now in
     let here : k ≡ get_or ks (before n) k = c.index_mut-child.ensures.value ∙ ap (λ (j : ℕ). get_or ks j k) at_is in
     let child = child_from_reach ls x.part x.key n
-    (omega (arith, inner.some, parted_lengths ls ks inner.children.parted)) c.reached-reach.ensures in
+    (omega (arith, inner.some, parted_lengths ls ks inner.children.parted)) c.reached_near-reach.ensures in
     let k' = c.insert_below.new.self in let w = c.in_err-grown-in-Inner.ensures.err in
     subst (λ (j : ℕ). IsInner ls (set ks j k') c.in-Inner.children.cap) (sym at_is)
     (widened_inner x.part x.key ls ks _ inner (before n) child k here k' w)
@@ -307,14 +307,14 @@ invariant_of-self-in_err-grown-in-Inner t c =
 pub returns-in_err-grown-in-Inner-clause-err : goal.returns-in_err-grown-in-Inner-clause-err
 returns-in_err-grown-in-Inner-clause-err t c =
     let x = c.args.entry.now in let ls = c.in-Inner.separators in let ks = c.in-Inner.children.items in
-    let n = c.reached-reach.result in
+    let n = c.reached_near-reach.result in
     let inner = subst IsTree c.in-Inner.is c.self.invariant in
     let seen : c.args.self.now ≡ inner_shape ks = sym c.self.view_is ∙ ap shape_of c.in-Inner.is in
     let at_is : c.saturating_sub-at.result ≡ before n = c.saturating_sub-at.ensures ∙ sym (before_is n) in
     let k = c.index_mut-child.result.now in
     let here : k ≡ get_or ks (before n) k = c.index_mut-child.ensures.value ∙ ap (λ (j : ℕ). get_or ks j k) at_is in
     let child = child_from_reach ls x.part x.key n
-    (omega (arith, inner.some, parted_lengths ls ks inner.children.parted)) c.reached-reach.ensures in
+    (omega (arith, inner.some, parted_lengths ls ks inner.children.parted)) c.reached_near-reach.ensures in
     let k' = c.insert_below.new.self in let w = c.in_err-grown-in-Inner.ensures.err in
     OnErr-from _ (subst (λ (j : ℕ). IsWidened c.args.self.now (inner_shape (set ks j k'))) (sym at_is)
     (subst (λ (o : Shape). IsWidened o (inner_shape (set ks (before n) k'))) (sym seen)

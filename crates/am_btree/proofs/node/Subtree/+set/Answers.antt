@@ -14,13 +14,13 @@ use Rattle.am_btree.proofs.ChildEdits.{writing, written_long, kept_inner, kept_e
 use Rattle.am_btree.proofs.node.Subtree.+set.Goals as goal
 use Rattle.am_btree.proofs.node.Subtree.+set.Goals.{in-Leaf, in-Inner}
 
-pub child_for-at-requires-clause-rising : goal.child_for-at-requires-clause-rising
-child_for-at-requires-clause-rising t c =
+pub child_near-at-requires-clause-rising : goal.child_near-at-requires-clause-rising
+child_near-at-requires-clause-rising t c =
     let inner = subst IsTree c.in-Inner.is c.self.invariant in
     they_rise c.in-Inner.separators c.in-Inner.children.items _ inner
 
-pub child_for-at-requires-clause-some : goal.child_for-at-requires-clause-some
-child_for-at-requires-clause-some t c =
+pub child_near-at-requires-clause-some : goal.child_near-at-requires-clause-some
+child_near-at-requires-clause-some t c =
     let inner = subst IsTree c.in-Inner.is c.self.invariant in
     omega (
       arith,
@@ -33,17 +33,17 @@ index_mut-requires t c =
     omega (
       arith,
       as_many c.in-Inner.separators c.in-Inner.children.items _ inner,
-      c.child_for-at.ensures.in_range,
+      c.child_near-at.ensures.in_range,
       c.in-Inner.children.ok.0,
     )
 
 pub set-requires : goal.set-requires
 set-requires t c =
-    let ls = c.in-Inner.separators in let ks = c.in-Inner.children.items in let at = c.child_for-at.result in
+    let ls = c.in-Inner.separators in let ks = c.in-Inner.children.items in let at = c.child_near-at.result in
     let k = c.index_mut.result.now in
     let inner = subst IsTree c.in-Inner.is c.self.invariant in
     let seen : c.args.self.now ≡ inner_shape ks = sym c.self.view_is ∙ ap shape_of c.in-Inner.is in
-    let child = c.child_for-at.ensures in
+    let child = c.child_near-at.ensures in
     let deep = one_below ls ks _ inner at k (omega (arith, child.in_range, as_many ls ks _ inner))
     c.index_mut.ensures.value in
     let falls : k.depth < c.args.self.now.depth = omega (arith, deep, ap (λ (s : Shape). s.depth) seen) in
@@ -84,11 +84,11 @@ invariant_of-self t c = elim c.match-self.branch [
         (w.set_in_leaf.ensures.rising, w.set_in_leaf.ensures.room),
       )
   | in-Inner w ↦
-      let ls = w.in-Inner.separators in let ks = w.in-Inner.children.items in let at = w.child_for-at.result in
+      let ls = w.in-Inner.separators in let ks = w.in-Inner.children.items in let at = w.child_near-at.result in
       let part = c.args.part in let key = c.args.key in
       let inner = subst IsTree w.in-Inner.is c.self.invariant in
       let seen : c.args.self.now ≡ inner_shape ks = sym c.self.view_is ∙ ap shape_of w.in-Inner.is in
-      let child = w.child_for-at.ensures in
+      let child = w.child_near-at.ensures in
       let k = w.index_mut.result.now in let k' = w.set.new.self in let here = w.index_mut.ensures.value in
       let is = writing part key c.args.value c.args.is_ghost k.entries in let e = w.set.ensures in
       let filled : 1 < length ks → 0 < length k'.entries = λ more.
@@ -113,11 +113,11 @@ returns-clause-entries t c = elim c.match-self.branch [
       rw w.self-inside-is (w.set_in_leaf.ensures.entries ∙
       sym (ap (λ (s : Shape). set_entry s.entries c.args.part c.args.key c.args.value c.args.is_ghost) seen))
   | in-Inner w ↦
-      let ls = w.in-Inner.separators in let ks = w.in-Inner.children.items in let at = w.child_for-at.result in
+      let ls = w.in-Inner.separators in let ks = w.in-Inner.children.items in let at = w.child_near-at.result in
       let part = c.args.part in let key = c.args.key in
       let inner = subst IsTree w.in-Inner.is c.self.invariant in
       let seen : c.args.self.now ≡ inner_shape ks = sym c.self.view_is ∙ ap shape_of w.in-Inner.is in
-      let child = w.child_for-at.ensures in
+      let child = w.child_near-at.ensures in
       let k = w.index_mut.result.now in let k' = w.set.new.self in let here = w.index_mut.ensures.value in
       let is = writing part key c.args.value c.args.is_ghost k.entries in let e = w.set.ensures in
       rw w.self-inside-is (kept_entries part key (λ es. set_entry es part key c.args.value c.args.is_ghost) is
@@ -131,11 +131,11 @@ returns-clause-depth t c = elim c.match-self.branch [
       let seen : c.args.self.now ≡ leaf_shape w.in-Leaf.leaf = sym c.self.view_is ∙ ap shape_of w.in-Leaf.is in
       rw w.self-inside-is (sym (ap (λ (s : Shape). s.depth) seen))
   | in-Inner w ↦
-      let ls = w.in-Inner.separators in let ks = w.in-Inner.children.items in let at = w.child_for-at.result in
+      let ls = w.in-Inner.separators in let ks = w.in-Inner.children.items in let at = w.child_near-at.result in
       let part = c.args.part in let key = c.args.key in
       let inner = subst IsTree w.in-Inner.is c.self.invariant in
       let seen : c.args.self.now ≡ inner_shape ks = sym c.self.view_is ∙ ap shape_of w.in-Inner.is in
-      let child = w.child_for-at.ensures in
+      let child = w.child_near-at.ensures in
       let k = w.index_mut.result.now in let k' = w.set.new.self in let here = w.index_mut.ensures.value in
       let is = writing part key c.args.value c.args.is_ghost k.entries in let e = w.set.ensures in
       rw w.self-inside-is (kept_depth part key (λ es. set_entry es part key c.args.value c.args.is_ghost) is
@@ -150,11 +150,11 @@ returns-clause-was_live t c = elim c.match-self.branch [
       w.result-is ∙ w.set_in_leaf.ensures.was_live ∙
       sym (ap (λ (s : Shape). is_some (live_value (find s.entries c.args.part c.args.key))) seen)
   | in-Inner w ↦
-      let ls = w.in-Inner.separators in let ks = w.in-Inner.children.items in let at = w.child_for-at.result in
+      let ls = w.in-Inner.separators in let ks = w.in-Inner.children.items in let at = w.child_near-at.result in
       let part = c.args.part in let key = c.args.key in
       let inner = subst IsTree w.in-Inner.is c.self.invariant in
       let seen : c.args.self.now ≡ inner_shape ks = sym c.self.view_is ∙ ap shape_of w.in-Inner.is in
-      let child = w.child_for-at.ensures in
+      let child = w.child_near-at.ensures in
       let k = w.index_mut.result.now in
       w.result-is ∙ w.set.ensures.was_live ∙
       sym (ap (λ (o : Option Slot). is_some (live_value o))
@@ -170,12 +170,12 @@ returns-clause-rooms t c = elim c.match-self.branch [
       rw w.self-inside-is (subst (λ (s : Shape). KeepsRoom s (leaf_shape w.set_in_leaf.new.leaf)) (sym seen)
       (leaf_keeps w.in-Leaf.leaf w.set_in_leaf.new.leaf e.room (omega (arith, e.same_room))))
   | in-Inner w ↦
-      let ls = w.in-Inner.separators in let ks = w.in-Inner.children.items in let at = w.child_for-at.result in
+      let ls = w.in-Inner.separators in let ks = w.in-Inner.children.items in let at = w.child_near-at.result in
       let inner = subst IsTree w.in-Inner.is c.self.invariant in
       let seen : c.args.self.now ≡ inner_shape ks = sym c.self.view_is ∙ ap shape_of w.in-Inner.is in
       let k = w.index_mut.result.now in let k' = w.set.new.self in
       rw w.self-inside-is (subst (λ (s : Shape). KeepsRoom s (inner_shape (set ks at k'))) (sym seen)
       (keeps_set ks at k inner.children.rising inner.children.roomed
-      (omega (arith, w.child_for-at.ensures.in_range, as_many ls ks _ inner)) w.index_mut.ensures.value k'
+      (omega (arith, w.child_near-at.ensures.in_range, as_many ls ks _ inner)) w.index_mut.ensures.value k'
       w.set.ensures.rooms))
 ]

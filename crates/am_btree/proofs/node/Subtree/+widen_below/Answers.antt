@@ -11,13 +11,13 @@ use Rattle.am_btree.proofs.WiderRooms.{no_room}
 use Rattle.am_btree.proofs.node.Subtree.+widen_below.Goals as goal
 use Rattle.am_btree.proofs.node.Subtree.+widen_below.Goals.{in-Leaf, in-Inner}
 
-pub child_for-at-requires-clause-rising : goal.child_for-at-requires-clause-rising
-child_for-at-requires-clause-rising t c =
+pub child_near-at-requires-clause-rising : goal.child_near-at-requires-clause-rising
+child_near-at-requires-clause-rising t c =
     let inner = subst IsTree c.in-Inner.is c.self.invariant in
     they_rise c.in-Inner.separators c.in-Inner.children.items _ inner
 
-pub child_for-at-requires-clause-some : goal.child_for-at-requires-clause-some
-child_for-at-requires-clause-some t c =
+pub child_near-at-requires-clause-some : goal.child_near-at-requires-clause-some
+child_near-at-requires-clause-some t c =
     let inner = subst IsTree c.in-Inner.is c.self.invariant in
     omega (
       arith,
@@ -30,17 +30,17 @@ index_mut-requires t c =
     omega (
       arith,
       as_many c.in-Inner.separators c.in-Inner.children.items _ inner,
-      c.child_for-at.ensures.in_range,
+      c.child_near-at.ensures.in_range,
       c.in-Inner.children.ok.0,
     )
 
 pub widen_below-requires : goal.widen_below-requires
 widen_below-requires t c =
-    let ls = c.in-Inner.separators in let ks = c.in-Inner.children.items in let at = c.child_for-at.result in
+    let ls = c.in-Inner.separators in let ks = c.in-Inner.children.items in let at = c.child_near-at.result in
     let k = c.index_mut.result.now in
     let inner = subst IsTree c.in-Inner.is c.self.invariant in
     let seen : c.args.self.now ≡ inner_shape ks = sym c.self.view_is ∙ ap shape_of c.in-Inner.is in
-    let child = c.child_for-at.ensures in
+    let child = c.child_near-at.ensures in
     let deep = one_below ls ks _ inner at k (omega (arith, child.in_range, as_many ls ks _ inner))
     c.index_mut.ensures.value in
     let falls : k.depth < c.args.self.now.depth = omega (arith, deep, ap (λ (s : Shape). s.depth) seen) in (
@@ -67,9 +67,9 @@ invariant_of-self t c = elim c.match-self.branch [
         (subst IsRising (sym e.entries) old.1.0, e.room),
       )
   | in-Inner w ↦
-      let ls = w.in-Inner.separators in let ks = w.in-Inner.children.items in let at = w.child_for-at.result in
+      let ls = w.in-Inner.separators in let ks = w.in-Inner.children.items in let at = w.child_near-at.result in
       let inner = subst IsTree w.in-Inner.is c.self.invariant in
-      let child = w.child_for-at.ensures in
+      let child = w.child_near-at.ensures in
       let k = w.index_mut.result.now in let k' = w.widen_below.new.self in let here = w.index_mut.ensures.value in
       let e = w.widen_below.ensures in
       rw w.self-inside-is (widened_inner c.args.part c.args.key ls ks _ inner at child k here k' e.widened)
@@ -83,10 +83,10 @@ returns-clause-widened t c = elim c.match-self.branch [
       rw w.self-inside-is (subst (λ (o : Shape). IsWidened o (leaf_shape w.widen_leaf.new.leaf)) (sym seen)
       (leaf_widened w.in-Leaf.leaf w.widen_leaf.new.leaf e.entries e.room e.no_less_room))
   | in-Inner w ↦
-      let ls = w.in-Inner.separators in let ks = w.in-Inner.children.items in let at = w.child_for-at.result in
+      let ls = w.in-Inner.separators in let ks = w.in-Inner.children.items in let at = w.child_near-at.result in
       let inner = subst IsTree w.in-Inner.is c.self.invariant in
       let seen : c.args.self.now ≡ inner_shape ks = sym c.self.view_is ∙ ap shape_of w.in-Inner.is in
-      let child = w.child_for-at.ensures in
+      let child = w.child_near-at.ensures in
       let k = w.index_mut.result.now in let k' = w.widen_below.new.self in let here = w.index_mut.ensures.value in
       let e = w.widen_below.ensures in
       rw w.self-inside-is (subst (λ (o : Shape). IsWidened o (inner_shape (set ks at k'))) (sym seen)
@@ -97,9 +97,9 @@ pub returns-clause-ok : goal.returns-clause-ok
 returns-clause-ok t c = elim c.match-self.branch [
   | in-Leaf w ↦ rw (w.result-is, w.self-inside-is) w.widen_leaf.ensures.ok
   | in-Inner w ↦
-      let ls = w.in-Inner.separators in let ks = w.in-Inner.children.items in let at = w.child_for-at.result in
+      let ls = w.in-Inner.separators in let ks = w.in-Inner.children.items in let at = w.child_near-at.result in
       let inner = subst IsTree w.in-Inner.is c.self.invariant in
-      let child = w.child_for-at.ensures in
+      let child = w.child_near-at.ensures in
       let k = w.index_mut.result.now in let k' = w.widen_below.new.self in let here = w.index_mut.ensures.value in
       let e = w.widen_below.ensures in
       rw (w.result-is, w.self-inside-is) (if_ok_map
@@ -117,10 +117,10 @@ returns-clause-full t c = elim c.match-self.branch [
       rw w.result-is (subst (λ (o : Shape). OnErr w.widen_leaf.result
       (¬ HasRoom o.roomy c.args.part c.args.key c.args.bytes)) (sym seen) e.full)
   | in-Inner w ↦
-      let ls = w.in-Inner.separators in let ks = w.in-Inner.children.items in let at = w.child_for-at.result in
+      let ls = w.in-Inner.separators in let ks = w.in-Inner.children.items in let at = w.child_near-at.result in
       let inner = subst IsTree w.in-Inner.is c.self.invariant in
       let seen : c.args.self.now ≡ inner_shape ks = sym c.self.view_is ∙ ap shape_of w.in-Inner.is in
-      let child = w.child_for-at.ensures in
+      let child = w.child_near-at.ensures in
       let k = w.index_mut.result.now in let here = w.index_mut.ensures.value in
       let e = w.widen_below.ensures in
       let stands = subst IsSome (ap (λ (s : Shape). find s.entries c.args.part c.args.key) seen ∙

@@ -41,7 +41,7 @@ returns-then-covers-clause-granted c = λ _.
 
 -- ---- nobody blocks it, and it is granted
 
--- the lock is written behind the own ones
+-- the lock is written after the own ones
 written : (items now : List OwnerLocks) (slot tx : ℕ) (asked : Lock) (own : List Lock) (old new : OwnerLocks) →
     items ≡ now → old ≡ record { owner = tx; locks = own } → is_covered own asked ≡ false → new.owner ≡ old.owner →
     new.locks ≡ old.locks ++ asked ∷ [] → set items slot new ≡ set now slot

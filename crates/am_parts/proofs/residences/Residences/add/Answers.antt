@@ -3,7 +3,7 @@ use Rattle.std.proofs.lemmas.Bool.{cond-true}
 use Rattle.std.proofs.lemmas.Option.{none-some}
 use Rattle.am_index.specs.Edits.{same_place}
 use Rattle.am_index.proofs.Edits.{same_place-itself}
-use Rattle.am_directory.specs.Tables.{label, code_of, HasCode, HasEntered, IsEntered}
+use Rattle.am_directory.specs.Tables.{label, code_in, HasCode, HasEntered, IsEntered}
 use Rattle.am_index.specs.Entries.{slot_of, find, insert_entry}
 use Rattle.am_parts.specs.Residences.{LivesInRun, StandsInRun, place_of}
 use Rattle.am_parts.proofs.KeptWords.{keeps_on, keeps_entered, live_unless, stand_still}
@@ -52,7 +52,7 @@ returns-then-not-entry-clause-kept c = λ es rising none was.
     (lives x.value (omega (arith, c.if-entry-gt0.true)) (finds x.part x.key ∙
     cond-true (same_place x.part x.key x.part x.key) (Some (slot_of x)) (find es x.part x.key)
     (same_place-itself x.part x.key) ∙ ap (λ b. Some (x.value, b)) c.if-not-entry.true))
-    (subst (λ (n : ℕ). HasCode old n (IsEntered (code_of old.words (label n)) (place_of x.part)) new)
+    (subst (λ (n : ℕ). HasCode old n (IsEntered (code_in old (label n)) (place_of x.part)) new)
     c.number.ensures c.enter.ensures.code)
 
 pub returns-else-entry-gt0-clause-kept : goal.returns-else-entry-gt0-clause-kept

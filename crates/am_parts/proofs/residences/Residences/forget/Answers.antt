@@ -1,5 +1,5 @@
 use Rattle.std.proofs.Common.{◌≡◌, ℕ, ◌∙◌, subst, arith, length}
-use Rattle.am_directory.specs.Tables.{label, code_of, code_left, code_let_go, HasCode, HasLeft}
+use Rattle.am_directory.specs.Tables.{label, code_in, code_left, code_let_go, HasCode, HasLeft}
 use Rattle.am_parts.specs.Residences.{LivesWith, Tell, KeepNoneWith}
 use Rattle.am_parts.proofs.NotedKeys.{one_forgotten, all_forgotten}
 use Rattle.am_parts.proofs.KeptWords.{one_let_go, all_let_go}
@@ -18,9 +18,9 @@ loop-pair-preserved c = record {
       let old = c.loop-pair.self.directory in let mid = c.leave.new.self in let new = c.let_go.new.self in
       one_let_go es part c.args.pairs.now c.loop-pair.self.hash c.loop-pair.pair-index c.pair-item.result
       c.loop-pair-test.true c.pair-item.is old mid new
-      (subst (λ (n : ℕ). HasCode old n (λ k. k ≡ code_left (code_of old.words (label n))) mid)
+      (subst (λ (n : ℕ). HasCode old n (λ k. k ≡ code_left (code_in old (label n))) mid)
       c.number-forgotten.ensures c.leave.ensures.code)
-      (subst (λ (n : ℕ). HasCode mid n (λ k. k ≡ code_let_go (code_of mid.words (label n))) new)
+      (subst (λ (n : ℕ). HasCode mid n (λ k. k ≡ code_let_go (code_in mid (label n))) new)
       c.number-forgotten.ensures c.let_go.ensures.code)
       (c.loop-pair.invariant.kept es part was);
 }

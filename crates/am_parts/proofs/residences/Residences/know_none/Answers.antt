@@ -2,7 +2,7 @@ use Rattle.std.proofs.Common.{◌≡◌, ◌≤◌, ℕ, length, ap, arith, subs
 use Rattle.std.proofs.lemmas.List.{get_or-take, length-take-le}
 use Rattle.am_record.specs.KeyNumber.{key_number}
 use Rattle.am_record.specs.declared.entry.Entry.{Entry}
-use Rattle.am_directory.specs.Tables.{are_free, code_of, label, residence_of}
+use Rattle.am_directory.specs.Tables.{are_free, code_in, label, residence_of}
 use Rattle.am_directory.specs.declared.residence.Residence.TheVariants.{Nowhere}
 use Rattle.am_parts.proofs.NotedKeys.{first_numbers}
 use Rattle.am_parts.proofs.residences.Residences.know_none.Goals as goal
@@ -28,7 +28,7 @@ pub returns-clause-none : goal.returns-clause-none
 returns-clause-none c = λ free i r lt.
     let count = length c.args.entries.now in
     let few : count ≤ length c.loop-at.numbers = omega (arith, c.requires.few, c.loop-at-test.array_long) in
-    subst (λ (n : ℕ). code_of c.args.self.now.directory.words (label n) ≡ 0)
+    subst (λ (n : ℕ). code_in c.args.self.now.directory (label n) ≡ 0)
     (get_or-take count c.loop-at.numbers i 0 lt ∙
     c.loop-at.invariant.made i 0 r (omega (arith, lt, c.loop-at-test.false)))
     (c.are_free.ensures.none free i 0 (omega (arith, lt, length-take-le count c.loop-at.numbers few)))

@@ -6,7 +6,7 @@ use Rattle.am_record.specs.OrderedKey.{OrderedKey}
 use Rattle.am_index.specs.Content.{live_value}
 use Rattle.am_index.specs.Edits.{same_place}
 use Rattle.am_index.proofs.Edits.{same_place-itself}
-use Rattle.am_directory.specs.Tables.{label, code_of, code_left, HasCode, HasEntered, HasLeft, IsEntered}
+use Rattle.am_directory.specs.Tables.{label, code_in, code_left, HasCode, HasEntered, HasLeft, IsEntered}
 use Rattle.am_index.specs.Entries.{Slot, find, set_entry}
 use Rattle.am_parts.specs.Residences.{LivesInRun, StandsInRun, place_of}
 use Rattle.am_parts.proofs.KeptWords.{keeps_on, keeps_entered, keeps_asleep, live_unless, others_live, stand_still}
@@ -108,7 +108,7 @@ returns-then-is_ghost-clause-kept c = λ es value rising there mark was.
     key
     (λ key' part' other. others_live es es' part key slot finds key' part' other) stand
     (stand key (record { part = part; is_run = omega (arith, c.if-part-eq0.false); there = there }))
-    (subst (λ (n : ℕ). HasCode old n (λ k. k ≡ code_left (code_of old.words (label n))) new)
+    (subst (λ (n : ℕ). HasCode old n (λ k. k ≡ code_left (code_in old (label n))) new)
     c.number-number.ensures c.leave.ensures.code)
 
 pub returns-else-is_ghost-clause-kept : goal.returns-else-is_ghost-clause-kept
@@ -127,5 +127,5 @@ returns-else-is_ghost-clause-kept c = λ es value rising there mark was.
     (λ at. subst (λ (k : OrderedKey). LivesInRun es' k part') (sym at.0)
     (subst (LivesInRun es' key) (sym at.1) lives_now)) it)
     (λ key' it. stand_still es es' part key slot finds (value, c.args.is_ghost) refl key' it) lives_now
-    (subst (λ (n : ℕ). HasCode old n (IsEntered (code_of old.words (label n)) (place_of part)) new)
+    (subst (λ (n : ℕ). HasCode old n (IsEntered (code_in old (label n)) (place_of part)) new)
     c.number-number.ensures c.enter.ensures.code)

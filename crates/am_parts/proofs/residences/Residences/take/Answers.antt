@@ -5,7 +5,7 @@ use Rattle.std.proofs.lemmas.Option.{same_Some}
 use Rattle.std.specs.Option.{option_map}
 use Rattle.am_record.specs.declared.entry.Entry.{Entry}
 use Rattle.am_index.specs.Content.{live_value}
-use Rattle.am_directory.specs.Tables.{label, code_of, code_left, code_let_go, HasCode, HasLeft}
+use Rattle.am_directory.specs.Tables.{label, code_in, code_left, code_let_go, HasCode, HasLeft}
 use Rattle.am_index.specs.Entries.{Slot, slot_of, find, remove_entry}
 use Rattle.am_parts.specs.Residences.{LivesInRun, StandsInRun}
 use Rattle.am_parts.proofs.KeptWords.{keeps_on, keeps_ghost_gone, keeps_gone, live_unless, stand_unless}
@@ -75,7 +75,7 @@ returns-then-entry-clause-kept c = λ es rising there was.
     (λ at. absurd (true≢false (sym c.if-entry.true ∙ ap (λ (s : Slot). s.1) (same_Some _ _
     (sym stood ∙ (λ i. find es (sym at.1 i) (sym at.0 i)) ∙ it.live.there))))) it)
     (λ key other. others_stand es es' x.part x.key None finds key other)
-    (subst (λ (n : ℕ). HasCode old n (λ k. k ≡ code_let_go (code_of old.words (label n))) new)
+    (subst (λ (n : ℕ). HasCode old n (λ k. k ≡ code_let_go (code_in old (label n))) new)
     c.number-number.ensures c.let_go.ensures.code)
 
 pub returns-clause-kept : goal.returns-clause-kept
@@ -88,7 +88,7 @@ returns-clause-kept c = λ es rising there was.
     x.key mid
     (λ key part other. others_live es es' x.part x.key None finds key part other)
     (λ key other. others_stand es es' x.part x.key None finds key other)
-    (subst (λ (n : ℕ). HasCode old n (λ k. k ≡ code_left (code_of old.words (label n))) mid)
+    (subst (λ (n : ℕ). HasCode old n (λ k. k ≡ code_left (code_in old (label n))) mid)
     c.number-number.ensures c.leave.ensures.code)
-    (subst (λ (n : ℕ). HasCode mid n (λ k. k ≡ code_let_go (code_of mid.words (label n))) new)
+    (subst (λ (n : ℕ). HasCode mid n (λ k. k ≡ code_let_go (code_in mid (label n))) new)
     c.number-number.ensures c.let_go-2.ensures.code)

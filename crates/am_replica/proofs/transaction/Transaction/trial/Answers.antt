@@ -46,16 +46,16 @@ returns-clause-goes_on g c =
     let all : c.in_ok-all.all.items ≡ ops = c.in_ok-all.ensures ∙ ap (λ os. os ++ lines) c.deref.ensures.value in
     let told : c.in_ok-replies.replies.items ≡ replies ops m =
     c.in_ok-replies.ensures.answers ∙ ap (λ os. replies os m) (c.deref-2.ensures.value ∙ all) in
-    let own : c.in_ok-self-inside.field-0.items ≡ kept ops =
-    c.in_ok-self-inside.ensures
+    let own : c.in_ok-own.own.items ≡ kept ops =
+    c.in_ok-own.ensures
     ∙ ap (λ os. given_ops os c.deref-5.result.now) (c.deref-4.ensures.value ∙ all)
     ∙ ap (λ rs. given_ops ops rs) (c.deref-5.ensures.value ∙ told)
     ∙ sym (given_are_kept m [] ops) in
-    let sum : c.digest-self-inside.result ≡ digest (given (replies ops m)) =
-    c.digest-self-inside.ensures ∙ ap (λ rs. digest (given rs)) (c.deref-6.ensures.value ∙ told) in
+    let sum : c.in_ok-sum-2.sum ≡ digest (given (replies ops m)) =
+    c.in_ok-sum-2.ensures ∙ ap (λ rs. digest (given rs)) (c.deref-6.ensures.value ∙ told) in
     subst (λ (t : TransactionState). record {
-      ops = c.in_ok-self-inside.field-0.items;
-      digest = c.digest-self-inside.result;
+      ops = c.in_ok-own.own.items;
+      digest = c.in_ok-sum-2.sum;
       is_over = c.self.inside.is_over;
     } ≡ behind_lines digest t lines m) c.self.view_is
     (λ i. record { ops = own i; digest = sum i; is_over = c.if-self.false i })
