@@ -239,7 +239,8 @@ fn with_scattered(alloc: Global, many: u64) -> Result<Subtree, NoMemory> {
 // Whether the tree has the run, and besides it as many entries.
 fn has_run(tree: &Subtree, many: usize, part: u32, pairs: &[(Key, Value)]) -> bool {
     count(tree) == many.saturating_add(pairs.len())
-        && pairs.iter().all(|(key, value)| tree.look(part, *key, Hint::none()).0 == Some((*value, false)))
+        && pairs.iter().all(|(key, value)| tree.look(part, *key, Hint::none()).0
+            == Some((*value, false)))
 }
 
 // A run of so many records is appended to a tree of so many entries.
