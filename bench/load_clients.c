@@ -1,6 +1,6 @@
 /* Clients on threads of their own, each with its requests in flight: requests a second, and how long an answer takes. They
-   speak to `amserve listen`, or the same pattern to redis-server. Usage: load_clients lines|redis PORT CLIENTS REQUESTS
-   IN_FLIGHT */
+   speak to `amserve listen`, or the same pattern to redis-server, or send whole transactions of three lines to replicas.
+   Usage: load_clients lines|redis|whole PORT[,PORT..] CLIENTS REQUESTS IN_FLIGHT */
 #include <arpa/inet.h>
 #include <netinet/in.h>
 #include <netinet/tcp.h>
@@ -12,7 +12,7 @@
 #include <time.h>
 #include <unistd.h>
 
-static int is_redis, port, requests, in_flight;
+static int is_redis, is_whole, ports[9], port_count, requests, in_flight;
 
 struct client { pthread_t thread; int number; double *took; int counted; };
 
@@ -33,6 +33,10 @@ static int request(char *to, int client, int i) {
     int at = i % 50;
     char key[32];
     int length = sprintf(key, "k%d.%d", client, (i * 7919) % 1000);
+    if (is_whole) {
+        if (i % 3 == 1) return sprintf(to, "INS c%d.%d.%d x\n", (int)getpid(), client, i / 3);
+        return sprintf(to, i % 3 ? "COMMIT\n" : "BEGIN\n");
+    }
     int is_end = at == 0 || at == 49, is_read = at % 2;
     if (is_redis) {
         if (is_end) return sprintf(to, "*1\r\n$4\r\nPING\r\n");
@@ -50,6 +54,7 @@ static int answers_in(const char *came, ssize_t count, int *at_start, int *has_m
     for (ssize_t i = 0; i < count; i++) {
         if (*at_start && is_redis) *has_more = *has_more == 2 ? 0 : came[i] == '$';
         if (!*at_start && *has_more == 1 && came[i] == '-') *has_more = 0;
+        if (*at_start && is_whole && came[i] == 'E') fail("a transaction didn't commit");
         *at_start = came[i] == '\n';
         if (!*at_start) continue;
         if (*has_more == 1) *has_more = 2;
@@ -61,7 +66,7 @@ static int answers_in(const char *came, ssize_t count, int *at_start, int *has_m
 static void *run(void *of) {
     struct client *me = of;
     int s = socket(AF_INET, SOCK_STREAM, 0), one = 1;
-    struct sockaddr_in to = {.sin_family = AF_INET, .sin_port = htons((unsigned short)port)};
+    struct sockaddr_in to = {.sin_family = AF_INET, .sin_port = htons((unsigned short)ports[me->number % port_count])};
     to.sin_addr.s_addr = htonl(INADDR_LOOPBACK);
     if (connect(s, (struct sockaddr *)&to, sizeof to)) fail("no connection");
     setsockopt(s, IPPROTO_TCP, TCP_NODELAY, &one, sizeof one);
@@ -93,9 +98,13 @@ static int by_size(const void *a, const void *b) {
 }
 
 int main(int argc, char **argv) {
-    if (argc != 6) fail("wants lines|redis PORT CLIENTS REQUESTS IN_FLIGHT");
+    if (argc != 6) fail("wants lines|redis|whole PORT[,PORT..] CLIENTS REQUESTS IN_FLIGHT");
     is_redis = !strcmp(argv[1], "redis");
-    port = atoi(argv[2]);
+    is_whole = !strcmp(argv[1], "whole");
+    for (char *rest = argv[2]; rest && port_count < 9; rest = strchr(rest, ',')) {
+        rest += *rest == ',';
+        ports[port_count++] = atoi(rest);
+    }
     int clients = atoi(argv[3]);
     requests = atoi(argv[4]) / clients;
     in_flight = atoi(argv[5]);

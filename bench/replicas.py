@@ -1,13 +1,15 @@
 #!/usr/bin/env python3
 """How fast replicas are, beside etcd's own puts and the store's own rate through a pipe, in one run: bench/replicas.py.
 
-Three members of etcd and the replicas run on this machine, so the figures are ratios. --records N: of the store whose snapshot
-a replica begins with; 0 leaves that out."""
+Three members of etcd and the replicas run on this machine, so the figures are ratios. Clients in Python see half of what replicas
+do; by bench/load_clients.c some more send whole transactions, one or a hundred ahead. --records N: of the store whose snapshot a
+replica begins with; 0 leaves that out."""
 from __future__ import annotations
 
 import argparse
 import asyncio
 import os
+import re
 import shlex
 import statistics
 import subprocess
@@ -136,6 +138,31 @@ def figures_of_writes(cluster: Cluster, seconds: float) -> None:
                   f"{done / rate:.2f} of the puts; median {took:.2f} ms, {took / median:.2f} puts", flush=True)
 
 
+def by_clients_in_c(cluster: Cluster, program: str, clients: int, ahead: int, seconds: float) -> Tuple[float, float]:
+    """Whole transactions, so many sent ahead: how many a second, and the median of their answers in milliseconds."""
+    ports, count = ",".join(map(str, cluster.ports[:3 if clients > 1 else 1])), 20 * clients * ahead
+    while True:
+        words = [program, "whole", ports, str(clients), str(3 * count), str(3 * ahead)]
+        begun = time.perf_counter()
+        told = subprocess.run(words, capture_output=True, text=True, check=True).stdout
+        took = time.perf_counter() - begun
+        if took > seconds / 2:
+            found = re.search(r"([0-9.]+) ms at the median", told)
+            return count / took, float(found[1]) if found else 0
+        count *= 2
+
+
+def figures_of_clients_in_c(cluster: Cluster, seconds: float) -> None:
+    program = os.path.join(cluster.folder, "load_clients")
+    source = os.path.join(os.path.dirname(os.path.realpath(__file__)), "load_clients.c")
+    subprocess.run([*shlex.split(os.environ.get("CC", "cc")), "-O2", "-pthread", "-o", program, source], check=True)
+    for clients, ahead in ((1, 1), (64, 1), (64, 100)):
+        rate, _ = asyncio.run(puts(cluster.endpoints, clients, seconds))
+        done, median = by_clients_in_c(cluster, program, clients, ahead, seconds)
+        print(f"{clients} clients in C, {ahead} sent ahead: {done:.0f} transactions a second, {done / rate:.2f} of the puts; "
+              f"median {median:.2f} ms", flush=True)
+
+
 def figures_of_reads(cluster: Cluster, seconds: float) -> None:
     lines = ["BEGIN", "LOCK X ! ~", *(f"INS a{number} x" for number in range(1000)), "COMMIT"]
     cluster.client(0).ask(*lines)
@@ -186,6 +213,7 @@ def main() -> None:
             if not all(cluster.is_ready(at) for at in range(3)):
                 sys.exit("bench/replicas.py: a replica isn't ready")
             figures_of_writes(cluster, asked.seconds)
+            figures_of_clients_in_c(cluster, asked.seconds)
             figures_of_reads(cluster, asked.seconds / 2)
             if asked.records:
                 figures_of_beginning(cluster, cluster.client(0), asked.records)

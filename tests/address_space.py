@@ -200,7 +200,7 @@ def tried(what: str, megabytes: int, end: Callable[[int], str]) -> Tuple[str, st
 
 def main(step: int) -> int:
     """Tries each limit, or each so many, and gives the status."""
-    programs = Programs(built("am_serve_alone"), built("am_serve_listen"), built("am_auditor"))
+    programs = Programs(built("am_program_alone"), built("am_program_listen"), built("am_program_audit"))
     one = session("k", RECORDS)
     many = [session(f"{number:02}k", 300) for number in range(64)]
     if small_stacks(programs):

@@ -123,7 +123,7 @@ class Trials(NamedTuple):
 
 def main() -> None:
     """Judges the run, and texts made from it."""
-    auditor = built("am_auditor")
+    auditor = built("am_program_audit")
     stored, commits = stored_run()
     verdict = judged(auditor, stored)
     if verdict != ["LEGAL", str(commits)] or commits < 100:

@@ -142,7 +142,7 @@ def back_and_forth(folder: str) -> None:
 def by_socket(folder: str) -> None:
     """A server that has a socket alone."""
     path = os.path.join(folder, "socket")
-    words = [built("am_serve_listen"), "listen", "--socket", path, "--sessions", "3", "--workers", "0"]
+    words = [built("am_program_listen"), "listen", "--socket", path, "--sessions", "3", "--workers", "0"]
     with subprocess.Popen(words, stdin=subprocess.DEVNULL, stdout=subprocess.PIPE, text=True) as server:
         assert server.stdout
         wanted("where it listens", server.stdout.readline(), f"LISTEN {path}\n")
@@ -271,7 +271,7 @@ def any_text(folder: str) -> None:
 def server_comes_back(folder: str) -> None:
     """A server that goes away at a terminal: the prompt says so, the next line connects again, and what was typed is kept."""
     # (the program itself, without the launcher that holds it)
-    server = Server("--stay", program=(built("am_serve_listen"),))
+    server = Server("--stay", program=(built("am_program_listen"),))
     terminal = Terminal(AMCLI, "--port", str(server.port), home=folder)
     terminal.see("tiuvrokk> ")
     terminal.type("begin\n")

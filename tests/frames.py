@@ -16,7 +16,7 @@ from typing import Dict, Iterable, List
 sys.dont_write_bytecode = True
 from support import TOP  # noqa: E402
 
-PROGRAMS = [f"{TOP}/crates/{crate}/out/{crate}" for crate in ("am_serve_alone", "am_serve_listen", "am_auditor")]
+PROGRAMS = [f"{TOP}/crates/{crate}/out/{crate}" for crate in ("am_program_alone", "am_program_listen", "am_program_audit")]
 LIMIT = 16 * 1024
 
 # Functions that may have a larger frame, by a part of their name, each with why.

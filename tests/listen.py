@@ -228,7 +228,7 @@ def for_others(folder: str) -> str:
     """The program, where each user may run it."""
     os.mkdir(folder)
     program = os.path.join(folder, "program")
-    shutil.copy(built("am_serve_listen"), program)
+    shutil.copy(built("am_program_listen"), program)
     for path in (os.path.dirname(folder), folder, program):
         os.chmod(path, 0o755)
     return program
@@ -372,7 +372,7 @@ def refused_memory(folder: str) -> None:
 def served_without(number: int, library: str, folder: str) -> bool:
     """Runs a server with that allocation refused, or all from it on where the number is below zero. Whether it served."""
     trace = os.path.join(folder, "refused_trace")
-    words = [built("am_serve_listen"), "listen", "--port", "0", "--sessions", "1", "--workers", "1", "--trace", trace]
+    words = [built("am_program_listen"), "listen", "--port", "0", "--sessions", "1", "--workers", "1", "--trace", trace]
     refusal = {"REFUSE": str(number)} if number > 0 else {"REFUSE_FROM": str(-number)}
     given = {**os.environ, "LD_PRELOAD": library, **refusal}
     said: List[str] = []
@@ -415,7 +415,7 @@ def worker_goes_on(folder: str) -> None:
 def turns_with_one_refused(number: int, library: str, folder: str, pause: float) -> int:
     """How many turns a worker had beside 40 answers, with that allocation refused; -1 where the session wasn't served to its end."""
     trace = os.path.join(folder, "refused_turns")
-    words = [built("am_serve_listen"), "listen", "--port", "0", "--sessions", "1", "--workers", "1", "--trace", trace]
+    words = [built("am_program_listen"), "listen", "--port", "0", "--sessions", "1", "--workers", "1", "--trace", trace]
     given = {**os.environ, "LD_PRELOAD": library, "REFUSE": str(number)}
     with subprocess.Popen(words, env=given, stdout=subprocess.PIPE, stderr=subprocess.PIPE, text=True) as process:
         line = process.stdout.readline().split() if process.stdout else []
@@ -614,7 +614,7 @@ def killed_server(folder: str) -> None:
     trace = os.path.join(folder, "killed")
     with open(trace, "w", encoding="ascii") as file:
         file.write("as it was")
-    server = serve(2, 1, trace, program=(built("am_serve_listen"),))
+    server = serve(2, 1, trace, program=(built("am_program_listen"),))
     client = Client(server.port)
     for number in range(100):
         client.ask_all(["BEGIN", f"INS {number} v", "COMMIT"])
@@ -656,7 +656,7 @@ def speakers_of_others() -> None:
 
 def main() -> None:
     """All of it."""
-    built("am_serve_listen")
+    built("am_program_listen")
     subprocess.run([AMAUDIT, "--help"], stdout=subprocess.DEVNULL, check=True)
     with tempfile.TemporaryDirectory() as folder:
         trace = os.path.join(folder, "trace")

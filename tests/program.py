@@ -117,7 +117,7 @@ def refused_at_the_start() -> None:
         for first in (1, 2, 3, 5, 8, 13, 20):
             given = {**os.environ, "REFUSE_FROM": str(first), "LD_PRELOAD": library}
             run = subprocess.run(
-                [built("am_serve_alone"), "alone"], env=given, stdin=subprocess.DEVNULL, stdout=subprocess.DEVNULL, stderr=subprocess.PIPE, text=True,
+                [built("am_program_alone"), "alone"], env=given, stdin=subprocess.DEVNULL, stdout=subprocess.DEVNULL, stderr=subprocess.PIPE, text=True,
                 timeout=LIMIT, check=False,
             )
             ended = run.returncode, run.stderr
@@ -127,7 +127,7 @@ def refused_at_the_start() -> None:
 
 def main() -> None:
     """All of it."""
-    built("am_serve_alone")
+    built("am_program_alone")
     sessions()
     answers_at_once()
     reader_that_goes()

@@ -2,6 +2,8 @@
 from __future__ import annotations
 
 import asyncio
+import base64
+import hashlib
 import os
 import socket
 import subprocess
@@ -121,7 +123,7 @@ def exhausted(folder: str) -> None:
         while ends[-1].startswith("COMMITTED") and len(ends) < 100:
             ends.append(client.ask("BEGIN", *filler(len(ends)), "COMMIT")[-1])
         wanted("the last of many", ends[-1] in ("ERR UNKNOWN", "ERR UNREACHABLE"), True)
-        stands = "VAL " + "v" * 64
+        stands = "VAL " + filling("f1.0000")
         wanted("what stands", until(lambda: client.ask("BEGIN", "GET f1.0000", "COMMIT")[1] == stands), True)
         cluster.kill_replica(0)
         cluster.start_replica(0, "--limit", "5")
@@ -149,9 +151,14 @@ def fill_history(cluster: Cluster) -> int:
     return asyncio.run(fill())
 
 
+def filling(key: str) -> str:
+    """A value that no packing makes much smaller."""
+    return base64.b64encode(hashlib.sha384(key.encode()).digest()).decode()
+
+
 def filler(number: int) -> List[str]:
     """Lines of half a million bytes."""
-    records = [f"f{number}.{at:04}={'v' * 64}" for at in range(6500)]
+    records = [f"{key}={filling(key)}" for key in (f"f{number}.{at:04}" for at in range(6500))]
     return [f"LOCK X ! {'~' * 32}"] + [f"LOAD {' '.join(records[at:at + 50])}" for at in range(0, 6500, 50)]
 
 

@@ -33,7 +33,7 @@ def refused_allocations(cluster: Cluster) -> None:
     compiler = shlex.split(os.environ.get("CC", "cc"))
     words = [*compiler, "-O2", "-shared", "-fPIC", "-o", library, f"{TOP}/tests/refuse_memory.c"]
     subprocess.run(words, check=True, timeout=LIMIT)
-    program = f"LD_PRELOAD={shlex.quote(library)} {shlex.quote(built('am_serve_alone'))} alone"
+    program = f"LD_PRELOAD={shlex.quote(library)} {shlex.quote(built('am_program_alone'))} alone"
     cluster.start_replica(LASTING, "--log", LOG, "--snapshot", "0")
     wanted("a replica that goes on", cluster.is_ready(LASTING), True)
     one = cluster.client(LASTING)

@@ -10,11 +10,11 @@ from typing import Any, Awaitable, Dict, List, Optional, Set
 
 from support import built
 
+from tiuvrokk_replica.entries import Block
 from tiuvrokk_replica.etcd import Etcd, Message, decoded, encoded
 from tiuvrokk_replica.log import Log
 from tiuvrokk_replica.replica import Replica
 from tiuvrokk_replica.store import Store
-from tiuvrokk_replica.transaction import EMPTY, Block
 
 # Seconds that a step may take.
 PATIENCE = 60.0
@@ -24,7 +24,7 @@ PATIENCE = 60.0
 def store() -> List[str]:
     """The command of the store behind a replica."""
     given = os.environ.get("AMREPLICA_STORE")
-    return shlex.split(given) if given else [built("am_serve_alone"), "alone"]
+    return shlex.split(given) if given else [built("am_program_alone"), "alone"]
 
 
 class Running:
@@ -43,10 +43,11 @@ class Running:
 
     async def commit(self, key: str) -> None:
         """A block that has a record of that key, and what follows from it."""
-        blocks = [Block.of([f"INS {key} 1".encode()], 0, EMPTY)]
+        blocks = [Block(f"INS {key} 1\n".encode())]
         outcomes = await self.unless_ended(self.replica.commit(blocks, PATIENCE))
-        if outcomes[0].end.startswith(b"COMMITTED "):
-            self.told[key] = int(outcomes[0].end.split()[1])
+        *_, end = outcomes[0].splitlines()
+        if end.startswith(b"COMMITTED "):
+            self.told[key] = int(end.split()[1])
         await self.settle()
 
     async def read(self) -> None:

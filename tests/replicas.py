@@ -19,6 +19,7 @@ from replica_access import exhausted, guarded, speakers_of_others, statuses, tra
 from replica_bank import LATE, SERVING, TRACING, Bank, compared
 from replica_corners import all_corners
 from replica_ends import refused_allocations, went_back
+from replica_entries import entries_as_bytes, no_entries, operations_alone, taken_over
 from replica_faults import Faults
 from replica_stops import each_stop
 from support import fail
@@ -83,6 +84,12 @@ def main() -> None:
             for at in cluster.replicas:
                 cluster.kill_replica(at)
             if given.only in (None, "corners"):
+                entries_as_bytes()
+                operations_alone(cluster)
+                no_entries(cluster)
+                taken_over(cluster)
+                for at in cluster.replicas:
+                    cluster.kill_replica(at)
                 all_corners(cluster)
                 for at in cluster.replicas:
                     cluster.kill_replica(at)

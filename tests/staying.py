@@ -400,7 +400,7 @@ def killed_under_load(trace: str) -> None:
     """A server that is killed leaves whole lines that are legal, and at most one that is torn."""
     dice = random.Random(7)
     for _ in range(50):
-        server = Server("--stay", "--sessions", "8", program=(built("am_serve_listen"),), trace=trace)
+        server = Server("--stay", "--sessions", "8", program=(built("am_program_listen"),), trace=trace)
         loads = [Load(server.port, number) for number in range(4)]
         for load in loads:
             load.start()
@@ -587,7 +587,7 @@ def goes_on_without(
 ) -> None:
     """A trace that can't be written any further: it is told once, the server keeps serving, its file has whole lines, and the
     status is 4."""
-    server = stay("--sessions", "4", program=begun_by or (built("am_serve_listen"),), trace=trace, preexec_fn=limit)
+    server = stay("--sessions", "4", program=begun_by or (built("am_program_listen"),), trace=trace, preexec_fn=limit)
     for number in range(2000):
         one_session(server.port, f"a{number}")
     time.sleep(0.3)
@@ -602,7 +602,7 @@ def goes_on_without(
 
 def full_device() -> None:
     """A device that takes nothing is refused at once."""
-    run = subprocess.run([built("am_serve_listen"), "listen", "--port", "0", "--stay", "--trace", "/dev/full"], capture_output=True, text=True, timeout=LIMIT, check=False)
+    run = subprocess.run([built("am_program_listen"), "listen", "--port", "0", "--stay", "--trace", "/dev/full"], capture_output=True, text=True, timeout=LIMIT, check=False)
     wanted("a full device", (run.returncode, run.stdout, run.stderr), (4, "", "amserve: /dev/full: No space left on device (os error 28)\namserve: cannot write the trace\n"))
 
 
@@ -648,7 +648,7 @@ def no_files_left() -> None:
     def few() -> None:
         resource.setrlimit(resource.RLIMIT_NOFILE, (12, 12))
 
-    server = stay("--sessions", "32", program=(built("am_serve_listen"),), preexec_fn=few)
+    server = stay("--sessions", "32", program=(built("am_program_listen"),), preexec_fn=few)
     clients = [socket.create_connection(("127.0.0.1", server.port), timeout=LIMIT) for _ in range(20)]
     time.sleep(1)
     for client in clients:
@@ -660,7 +660,7 @@ def no_files_left() -> None:
 
 def none_accepted() -> None:
     """A server that can accept no connection for a while serves once it can."""
-    server = stay("--sessions", "2", program=(built("am_serve_listen"),))
+    server = stay("--sessions", "2", program=(built("am_program_listen"),))
     limits = resource.prlimit(server.process.pid, resource.RLIMIT_NOFILE)
     used = len(os.listdir(f"/proc/{server.process.pid}/fd"))
     resource.prlimit(server.process.pid, resource.RLIMIT_NOFILE, (used, limits[1]))
@@ -840,7 +840,7 @@ def socket_of_files(folder: str) -> None:
     wanted("whether the socket is there at the end", os.path.exists(path), False)
     with open(path, "w", encoding="ascii") as file:
         file.write("somebody's")
-    run = subprocess.run([built("am_serve_listen"), "listen", "--port", "0", "--stay", "--socket", path], capture_output=True, text=True, timeout=LIMIT, check=False)
+    run = subprocess.run([built("am_program_listen"), "listen", "--port", "0", "--stay", "--socket", path], capture_output=True, text=True, timeout=LIMIT, check=False)
     why = f"amserve: {path}: Address already in use (os error 98)\namserve: cannot listen\n"
     wanted("a file in its place", (run.returncode, run.stdout, run.stderr, os.path.getsize(path)), (3, "", why, 10))
 
@@ -870,7 +870,7 @@ def socket_alone(folder: str) -> None:
 def wrong_words() -> None:
     """Words that go with a server that stays alone."""
     for words in (["--grace", "1"], ["--log"], ["--idle", "1"], ["--stay", "--socket", ""], ["--stay", "--grace", "3601"], ["--stay", "--idle", "0"]):
-        run = subprocess.run([built("am_serve_listen"), "listen", "--port", "0", *words], capture_output=True, text=True, timeout=LIMIT, check=False)
+        run = subprocess.run([built("am_program_listen"), "listen", "--port", "0", *words], capture_output=True, text=True, timeout=LIMIT, check=False)
         wanted(f"the status of {words}", run.returncode, 2)
 
 

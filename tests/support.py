@@ -213,7 +213,7 @@ def random_line(dice: random.Random, begun: bool) -> str:
 def program(server: Server) -> int:
     """The process of the program, which a launcher holds."""
     pid = server.process.pid
-    while os.path.basename(os.readlink(f"/proc/{pid}/exe")) not in ("amserve", "am_serve_listen"):
+    while os.path.basename(os.readlink(f"/proc/{pid}/exe")) not in ("amserve", "am_program_listen"):
         with open(f"/proc/{pid}/task/{pid}/children", encoding="ascii") as file:
             pid = int(file.read().split()[0])
     return pid

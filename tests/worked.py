@@ -3,7 +3,7 @@
 
 The gate proves all that a crate of crates.txt has, its tests too, so these stand in files that it doesn't read. Here they are
 copied, with the crates' sources, into a folder of their own, as the crate am_worked. Tests that look inside a library go into its
-copy: inside/am_btree.rs into am_btree, inside/am_parts.parts.rs into the module `parts` of am_parts. They are public functions
+copy: inside/am_index_btree.rs into am_index_btree, inside/am_index_parts.parts.rs into the module `parts` of am_index_parts. They are public functions
 there, which am_worked calls, so that all are built at once. The checked build ends a test at an index out of
 range, a use after free, an overflow, an `unwrap` of nothing or a false `prove!`. It proves nothing, so not that a test keeps the
 conditions of what it calls.

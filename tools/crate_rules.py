@@ -15,8 +15,8 @@ from tree import TOP, crates, given_out, sources, text_of
 # called, and needs no place here.
 SURFACE = {
     "am_latch": {"Closed", "LatchFault", "Missing"},  # what `close` and `Latch::open` give
-    "am_server": {"serve_session"},  # a session over any source and sink, whose contract is a promise
-    "am_counters": {"CountersFault"},  # why `Counters` are refused
+    "am_serve": {"serve_session"},  # a session over any source and sink, whose contract is a promise
+    "am_latch_counters": {"CountersFault"},  # why `Counters` are refused
 }
 
 
@@ -120,10 +120,11 @@ def faults_of_edits() -> Iterator[str]:
 
 
 def faults_of_widths() -> Iterator[str]:
-    """Code, definitions and proofs fit on a page; a text of code that `rt fmt` leaves as it stands may not."""
+    """Code, definitions and proofs fit on a page; a text of code that `rt fmt` leaves as it stands, and one long name, may not."""
     for path in sources("s*", "proofs"):
         for number, line in enumerate(text_of(path).splitlines(), 1):
-            if len(line) > 120 and not (path.endswith(".rt") and '"' in line):
+            one_name = line.startswith("use ") and "," not in line
+            if len(line) > 120 and not one_name and not (path.endswith(".rt") and '"' in line):
                 yield f"{os.path.relpath(path, TOP)}:{number}: a line of {len(line)} characters"
 
 
@@ -134,7 +135,7 @@ OPERATIONS = ("Replace", "Set", "Put", "ScanBack", "DeleteRange")
 def operation_files() -> Dict[str, List[str]]:
     """The files of each kind that name the operation which most files name, outside their comments. Worked traces and tests don't
     count."""
-    worked = re.compile(r"crates/(am_memory_tests|am_serial/specs/Rows|am_serial/proofs/worked_)")
+    worked = re.compile(r"crates/(am_tests_memory|am_law_serial/specs/Rows|am_law_serial/proofs/worked_)")
     kinds = {"sources": "src", "specifications": "specs", "files of proofs": "proofs"}
     texts = {kind: [(os.path.relpath(it, TOP), text_of(it)) for it in sources(folder)] for kind, folder in kinds.items()}
     found = [

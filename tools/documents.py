@@ -11,10 +11,10 @@ README_WORDS = 1600
 DIARY_WORDS, DECISION_WORDS = 8000, 60
 # Where the version stands beside VERSION: the programs', the header's, Python's, and the newest of CHANGELOG.md.
 VERSIONS = {
-    "crates/am_command/src/program_words.rt": r'VERSION: &str = "([^"]*)"',
+    "crates/am_program_start/src/program_words.rt": r'VERSION: &str = "([^"]*)"',
     "c/tiuvrokk.h": r'#define TVK_VERSION "([^"]*)"',
     "python/tiuvrokk/__init__.py": r'(?m)^__version__ = "([^"]*)"',
-    "crates/am_serve_listen/stdout": r"amserve ([0-9.]+)",
+    "crates/am_program_listen/stdout": r"amserve ([0-9.]+)",
     "rust/Cargo.toml": r'(?m)^version = "([^"]*)"',
     "CHANGELOG.md": r"(?m)^## ([0-9.]+)",
 }

@@ -15,7 +15,7 @@ sys.path.insert(0, os.path.join(TOP, "python"))
 # The proved programs by their crates, and where each is installed.
 # The list of what was installed.
 LIST = "lib/tiuvrokk/installed"
-PROVED = {"am_serve_alone": "lib/tiuvrokk/alone/amserve", "am_serve_listen": "lib/tiuvrokk/listen/amserve", "am_auditor": "bin/amaudit"}
+PROVED = {"am_program_alone": "lib/tiuvrokk/alone/amserve", "am_program_listen": "lib/tiuvrokk/listen/amserve", "am_program_audit": "bin/amaudit"}
 PYTHON_PROGRAMS = ["amload", "amdump", "amcli", "amdraw", "amreplica"]
 COMMANDS = ["amserve", "amaudit", *PYTHON_PROGRAMS]
 AMSERVE = """#!/bin/bash

@@ -19,7 +19,7 @@ TABLE = "python/tiuvrokk_tools/verbs.py"
 
 def words_of_lines() -> Dict[str, str]:
     """The word of each verb, by its name in the crates."""
-    return dict(re.findall(r'(?m)^word_of (\w+) = codes "([A-Z]+)"$', text_of("crates/am_text/specs/Verbs.antt")))
+    return dict(re.findall(r'(?m)^word_of (\w+) = codes "([A-Z]+)"$', text_of("crates/am_line_text/specs/Verbs.antt")))
 
 
 def verbs_of_operations() -> Dict[str, str]:
@@ -60,7 +60,7 @@ def faults_of_words() -> Iterator[str]:
     """The verbs are those of lines, and write exactly where their operation locks to write."""
     words = words_of_lines()
     if {*verbs.VERBS} != {*words.values()}:
-        yield f"{TABLE}: {sorted({*verbs.VERBS} ^ {*words.values()})} are in the table or in am_text alone"
+        yield f"{TABLE}: {sorted({*verbs.VERBS} ^ {*words.values()})} are in the table or in am_line_text alone"
     kinds = {verb.word: verb.kind for verb in verbs.TABLE}
     locks, names = locks_of_operations(), verbs_of_operations()
     for operation, name in names.items():
@@ -83,12 +83,12 @@ def faults_of_users() -> Iterator[str]:
     alone = text_of("man/amcli.1").partition(".Ql HELP VERB")[2].partition("are a transaction of their own")[0]
     if {*re.findall(r"\.Ql ([A-Z]+)", alone)} != {*verbs.ALONE}:
         yield f"man/amcli.1: other verbs than {verbs.ALONE} are transactions of their own"
-    fronts = set(re.findall(r'b"([A-Z]+)', text_of("crates/am_doors/src/http.rt").partition("OWN_FRONTS")[2].partition(";\n")[0]))
+    fronts = set(re.findall(r'b"([A-Z]+)', text_of("crates/am_serve_connections/src/http.rt").partition("OWN_FRONTS")[2].partition(";\n")[0]))
     own = {verb.word for verb in verbs.TABLE if re.search(r" (v|hi)$", verb.lines.partition(",")[0])}
     if fronts != own:
-        yield f"crates/am_doors/src/http.rt: {sorted(fronts)} may end as a request of HTTP does, and {sorted(own)} by the table"
+        yield f"crates/am_serve_connections/src/http.rt: {sorted(fronts)} may end as a request of HTTP does, and {sorted(own)} by the table"
     if set(re.findall(r'b"([A-Z]+)', text_of("python/tiuvrokk_replica/lines.py").partition("OWN_FRONTS = ")[2].partition(")\n")[0])) != own:
-        yield "python/tiuvrokk_replica/lines.py: OWN_FRONTS are others than those of am_doors"
+        yield "python/tiuvrokk_replica/lines.py: OWN_FRONTS are others than those of am_serve_connections"
 
 
 def faults() -> Iterator[str]:

@@ -4,8 +4,8 @@ use crate::fault::Fault;
 use crate::figure::Figure;
 use crate::store;
 use crate::watch::Watch;
-use am_btree::BTree;
-use am_core::Store;
+use am_index_btree::BTree;
+use am_store::Store;
 use am_record::HashKey;
 use std::time::Clock;
 

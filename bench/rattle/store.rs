@@ -2,8 +2,8 @@
 
 use crate::fault::Fault;
 use crate::keys::{value_of, weight};
-use am_btree::BTree;
-use am_core::Store;
+use am_index_btree::BTree;
+use am_store::Store;
 use am_record::{Key, Lock, Mode, NoMemory, Op, Records, Range, Reply, Step};
 use std::alloc::Global;
 

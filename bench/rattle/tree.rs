@@ -1,11 +1,11 @@
 //! The same work on the tree.
 
 use crate::keys::{value_of, weight};
-use am_btree::BTree;
+use am_index_btree::BTree;
 use am_index::{Hint, PartIndex};
-use am_parts::Parts;
+use am_index_parts::Parts;
 use am_record::{Entry, Key, NoMemory, Range};
-use am_scan::scan;
+use am_store_scan::scan;
 use std::alloc::Global;
 
 fn entry(key: Key) -> Entry {
@@ -18,7 +18,17 @@ fn entry(key: Key) -> Entry {
 }
 
 // Inserts where nothing stands, and says whether it did. An insert may be asked for at an absent place alone, so the
-// place is looked for first.
+// place is looked for first, and the insert begins where that ended.
+fn insert_there(tree: &mut BTree, entry: Entry) -> Result<bool, NoMemory> {
+    let (found, hint) = tree.look(entry.part, entry.key, Hint::none());
+    let is_new = found.is_none();
+    if is_new {
+        tree.insert(entry, hint)?;
+    }
+    Ok(is_new)
+}
+
+// The same, but that the insert searches anew.
 fn insert(tree: &mut BTree, entry: Entry) -> Result<bool, NoMemory> {
     let is_new = tree.find(entry.part, entry.key).is_none();
     if is_new {
@@ -31,7 +41,7 @@ fn insert(tree: &mut BTree, entry: Entry) -> Result<bool, NoMemory> {
 pub(crate) fn fill(tree: &mut BTree, keys: &[Key]) -> Result<u64, NoMemory> {
     let mut added: u64 = 0;
     for key in keys {
-        if tree.insert_new(entry(*key))? {
+        if insert_there(tree, entry(*key))? {
             added = added.saturating_add(1);
         }
     }

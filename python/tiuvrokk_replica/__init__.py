@@ -1,6 +1,7 @@
 """Replicas of a store, whose transactions an etcd cluster orders: the modules of ./amreplica.
 
     etcd          requests to the cluster, by whichever member answers
+    entries       blocks of the log as bytes, and as lines of the store
     log           entries in one order, each counted once
     lines         what is known of lines before they are answered
     store         the program behind the replica

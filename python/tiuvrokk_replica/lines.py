@@ -18,6 +18,18 @@ READS: FrozenSet[bytes] = frozenset(word.encode() for word in words_of(Kind.READ
 LOADING = tuple(verb + b" " for verb in sorted(STAGING))
 # A request of HTTP: two words or more and a version; how those lines begin that may end so too.
 REQUEST = re.compile(rb"[\t\f\r ]*[^\t\f\r ]+[\t\f\r ]+[^\t\f\r ].*[\t\f\r ]http/[0-9][0-9.]*[\t\f\r ]*", re.IGNORECASE | re.DOTALL)
+# A key, a record, and lines that surely are operations: one that reads, those that write so many records, and all (whose
+# range has the least key first).
+KEY, VALUE = rb"[!-<>-~]{1,32}", rb"[!-~]{1,64}"
+READING = b"GET " + KEY
+
+
+def writing(records: bytes) -> bytes:
+    return b"(?:DEL %b|(?:INS|REP|SET) %b %b|(?:LOAD|PUT)(?: %b=%b)%b)" % (KEY, KEY, VALUE, KEY, VALUE, records)
+
+
+RANGED = b"LOCK [SX] (%b) (%b)|(?:SCAN|RSCAN|DELR) (%b) (%b) (?:[1-9][0-9]{0,2}|1000)" % (KEY, KEY, KEY, KEY)
+SURE = re.compile(b"|".join((READING, writing(b"+"), b"STAGE(?: %b=%b)+" % (KEY, VALUE), b"MARK", b"BACK", RANGED)))
 OWN_FRONTS = (b"INS ", b"REP ", b"SET ", b"LOCK S ", b"LOCK X ")
 
 
@@ -33,10 +45,16 @@ def may_have_http(text: bytes) -> bool:
 
 
 def is_of_http(line: bytes) -> bool:
-    """Whether a line is one of HTTP: a request, or the header that names a host. The same as a server of am_doors has it."""
+    """Whether a line is one of HTTP: a request, or the header that names a host. The same as a server of am_serve_connections has it."""
     if line[:5].lower() == b"host:":
         return True
     return len(line) <= LONGEST and not line.startswith(OWN_FRONTS) and REQUEST.fullmatch(line) is not None
+
+
+def is_sure(line: bytes) -> bool:
+    """Whether a transaction's line is surely an operation, or stages records: no store answers it that it is faulty."""
+    found = SURE.fullmatch(line)
+    return found is not None and (found[1] or found[3] or b"") <= (found[2] or found[4] or b"")
 
 
 def longest_answer(line: bytes) -> int:

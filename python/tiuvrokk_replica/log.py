@@ -1,7 +1,8 @@
 """The log: entries in one order, each counted once, kept by an etcd cluster.
 
 Keys, under the log's name:
-    NAME/floor                  the newest snapshot (a text), and the number of the generation that began with it
+    NAME/floor                  the newest snapshot (a text), the number of the generation that began with it, and the form of
+                                the entries of that; without a form they are of the one before, and there must be none
     NAME/log/GENERATION/ID.N    the pieces of an entry; the last of them, whose name ends in `.!`, is its head
     NAME/tail                   put together with each head, whose entry it names: its revision is the log's end
     NAME/snap/ID/N              pieces of snapshots (snapshots.py); the ID begins with the generation
@@ -20,6 +21,7 @@ import asyncio
 import json
 from typing import Callable, Dict, List, NamedTuple, Optional, Tuple
 
+from .entries import FORM, NoEntry
 from .etcd import FAULTS, PAUSE, Etcd, Link, Message, Refused, Unreachable, decoded, encoded, put_of
 
 # Bytes of a piece; etcd takes requests of 1.5 MB.
@@ -93,6 +95,14 @@ def revision_of(answer: Message) -> int:
     return int(answer["header"]["revision"])
 
 
+def told_by_floor(text: bytes) -> Message:
+    """What a floor says. One that names no form was written before there were any: its snapshot is one all the same."""
+    told: Message = json.loads(text)
+    if told.get("form", FORM) != FORM:
+        raise NoEntry(f"the snapshot {told['id']} begins a log of form {told['form']}, which this version doesn't know")
+    return told
+
+
 class Log:
     """What a replica knows of the log."""
 
@@ -134,7 +144,7 @@ class Log:
         if event.key == self.floor.key:
             if event.revision <= self.floor.revision:
                 return None  # who wrote the snapshot that was begun by had read it
-            told = json.loads(event.value)
+            told = told_by_floor(event.value)
             if told["since"] != self.floor.revision:
                 raise WentBack("the floor before this one isn't the one that was read")
             self.floor = event

@@ -3,14 +3,16 @@ from __future__ import annotations
 
 import argparse
 import asyncio
+import gc
 import os
 import re
 import shlex
 import signal
 import ssl
 import sys
-from typing import Any, Callable, Coroutine, Dict, List, NoReturn, Optional
+from typing import Any, Callable, Coroutine, Dict, List, NoReturn, Optional, Sequence
 
+from .entries import NoEntry
 from .etcd import Access, Etcd, Refused
 from .log import LeftBehind, Log, WentBack
 from .replica import Replica
@@ -29,7 +31,8 @@ EPILOG = """status:
   3  the store ended, wants memory, or answered what isn't an answer: it may differ from those of the other replicas
   4  the port can't be listened at, or a file can't be read or written
   5  etcd refuses what the log needs
-  6  etcd went back: it no longer has what this replica read of it, as after a restored backup"""
+  6  etcd went back: it no longer has what this replica read of it, as after a restored backup
+  7  the log has an entry that this version doesn't read, as those of the version before"""
 
 
 class Ending(Exception):
@@ -138,13 +141,6 @@ class Program:
         if not self.end.done():
             self.end.set_exception(fault)
 
-    def watch_store(self) -> None:
-        """A store that isn't asked anything has nothing to say, so what comes is its end."""
-        loop, out = asyncio.get_running_loop(), self.store.out
-        loop.add_reader(out, lambda: self.fail(StoreEnded("it ended")))
-        self.store.on_begin = self.watch_store
-        self.store.on_end = lambda: loop.remove_reader(out)
-
     async def serve(self, connection: Connection, reader: asyncio.StreamReader, writer: asyncio.StreamWriter) -> None:
         self.sessions += 1
         self.open += 1
@@ -194,7 +190,7 @@ class Program:
     async def begin(self) -> None:
         # The store may have to be built first, which takes minutes.
         await asyncio.get_running_loop().run_in_executor(None, self.store.ask, [b"BEGIN", b"ABORT"])
-        self.watch_store()
+        self.replica.failure.add_done_callback(lambda done: self.fail(done.exception() or Ending(3, "it ended")))
         life = await self.replica.start()
         try:
             loop = asyncio.get_running_loop()
@@ -207,10 +203,13 @@ class Program:
         await life
 
 
-def leave(status: int, text: str) -> NoReturn:
-    """Ends at once: clients are cut off, and the store reads its end."""
+def leave(status: int, text: str, programs: Sequence[Program] = ()) -> NoReturn:
+    """Ends at once: clients are cut off, and the store reads its end, unless it has yet to answer, which it couldn't."""
     if text:
         print(f"amreplica: {text}", file=sys.stderr, flush=True)
+    for program in programs:
+        if program.store.awaited:
+            program.store.process.kill()
     os._exit(status)
 
 
@@ -228,15 +227,17 @@ async def live(asked: argparse.Namespace) -> None:
         program.append(Program(asked))
         await program[0].run()
     except Ending as ending:
-        leave(ending.status, str(ending))
+        leave(ending.status, str(ending), program)
     except StoreEnded as fault:
-        leave(3, f"the store: {fault}")
+        leave(3, f"the store: {fault}", program)
     except TraceFault as fault:
-        leave(4, f"{asked.trace}: {fault}")
+        leave(4, f"{asked.trace}: {fault}", program)
     except Refused as fault:
-        leave(5, f"etcd: {fault}")
+        leave(5, f"etcd: {fault}", program)
     except WentBack as fault:
-        leave(6, f"etcd went back: {fault}")
+        leave(6, f"etcd went back: {fault}", program)
+    except NoEntry as fault:
+        leave(7, f"the log: {fault}", program)
     except LeftBehind as fault:
         # Only a newer snapshot has what the log did meanwhile.
         print(f"amreplica: left behind: {fault}: beginning anew", file=sys.stderr, flush=True)
@@ -244,8 +245,10 @@ async def live(asked: argparse.Namespace) -> None:
         give_again(program[0].access.password)
         os.execv(sys.executable, [sys.executable] + sys.argv)
     except OSError as fault:
-        leave(4, str(fault))
+        leave(4, str(fault), program)
 
 
 def main() -> None:
+    # (blocks are many, and go with no help: cycles are few)
+    gc.set_threshold(100_000)
     asyncio.run(live(parser().parse_args()))

@@ -4,13 +4,12 @@ from __future__ import annotations
 import asyncio
 import re
 import time
-from typing import Awaitable, Callable, Dict, List, Optional, Union
+from typing import Awaitable, Callable, Dict, List, Optional, Tuple, Union
 
-from tiuvrokk_tools.verbs import WRITES as VERBS_THAT_WRITE
-
-from .lines import LONGEST, is_of_http, may_have_http
+from .entries import Block
+from .lines import LONGEST, READING, is_of_http, is_sure, may_have_http, writing
 from .replica import Outcome, Replica
-from .transaction import LIMIT, UNREACHABLE, Block, Transaction
+from .transaction import LIMIT, UNREACHABLE, Transaction
 
 # Bytes that are read at once.
 CHUNK = 1 << 18
@@ -18,12 +17,13 @@ CHUNK = 1 << 18
 AHEAD = 500_000
 # Whole transactions that read a few records, which may go to the store as they stand.
 READS_AHEAD = re.compile(rb"(?:BEGIN\n(?:(?:GET [!-<>-~]{1,32}|R?SCAN [!-<>-~]{1,32} [!-<>-~]{1,32} [1-9])\n)*COMMIT\n)+")
-# Whole transactions that write a few records, and the lines between BEGIN and COMMIT of one; a line that may write.
-WRITERS = b"|".join(sorted(VERBS_THAT_WRITE))
-WRITES_AHEAD = re.compile(rb"(?:BEGIN\n(?:(?:GET|LOCK|%b) [ -~]*\n)+COMMIT\n)+" % WRITERS)
-# (none of the lines between begins as COMMIT does)
-BODY = re.compile(rb"BEGIN\n((?:[^C].*\n)+)COMMIT\n")
-WRITES = re.compile(rb"^(?:%b) " % WRITERS, re.MULTILINE)
+# A whole transaction that reads and writes records by lines that surely do, and that are not too long: these, one of which writes.
+WRITES = re.compile(
+    rb"BEGIN\n((?:{reading}\n)*{writing}\n(?:(?:{reading}|{writing})\n)*)COMMIT\n"
+    .replace(b"{reading}", READING).replace(b"{writing}", writing(b"{1,41}"))
+)
+# Bytes of BEGIN and COMMIT.
+AROUND = len(b"BEGIN\nCOMMIT\n")
 # Bytes of answers that a client hasn't read, and sendings whose ends aren't known, beyond which its lines wait.
 UNREAD, MOST_FLYING = 1 << 16, 100
 BEGUN = re.compile(rb"^BEGUN [0-9]+$", re.MULTILINE)
@@ -32,6 +32,21 @@ APART = (b"QUIT", b"ABORT", b"SEEN", b"WHO")
 MAINTENANCE = (b"MERGE ", b"CLEAN ", b"END ")
 # (no such line goes to the store, whose own session it would end)
 END = re.compile(rb"END (0|[1-9][0-9]{0,19})")
+
+
+def writers_at(text: bytes, at: int) -> Tuple[List[Block], int]:
+    """The blocks of whole transactions that write, which stand in a text at some place; and where they end."""
+    if not at:
+        bodies = WRITES.findall(text)
+        if sum(map(len, bodies)) + AROUND * len(bodies) == len(text):
+            return list(map(Block, bodies)), len(text)
+    blocks: List[Block] = []
+    found = WRITES.match(text, at)
+    while found:
+        blocks.append(Block(found[1]))
+        at = found.end()
+        found = WRITES.match(text, at)
+    return blocks, at
 
 
 class Session:
@@ -51,18 +66,19 @@ class Session:
         self.is_current: Optional[bool] = None  # whether the log's end was reached since the last lines came, once that was asked
         self.has_begun = False  # something has come
         self.rests = False  # all lines that came were taken
-        self.flying = 0  # transactions that wait for their end with no task
+        self.flying = self.flying_bytes = 0  # sendings, and bytes of them, that wait for their ends with no task
         self.landed = asyncio.Event()  # none does
 
     def take_past(self, data: bytes) -> bool:
         """Lines that a session which rests takes with no task: BEGIN, the COMMIT of what was told, and whole transactions that
         write and were sent ahead. Whether it took them."""
         self.heard = time.monotonic()
-        if not self.rests or self.flying >= MOST_FLYING or self.writer.transport.get_write_buffer_size() > UNREAD:
+        is_full = self.flying >= MOST_FLYING or self.flying_bytes > AHEAD
+        if not self.rests or is_full or self.writer.transport.get_write_buffer_size() > UNREAD:
             return False
         transaction = self.transaction
         if transaction is None and data != b"BEGIN\n":
-            return len(data) <= LONGEST and not may_have_http(data) and self.take_ahead(data)
+            return not may_have_http(data) and self.take_ahead(data)
         if self.flying:
             return False
         if transaction is None:
@@ -72,36 +88,34 @@ class Session:
         if data != b"COMMIT\n" or not transaction.is_told():
             return False
         self.transaction = None
-        self.fly([transaction.block()], lambda outcomes: self.tell(outcomes[0].end + b"\n"))
+        block = transaction.block()
+        self.fly([block], len(block.body), lambda outcomes: self.tell(outcomes[0]))
         return True
 
     def take_ahead(self, data: bytes) -> bool:
-        if not WRITES_AHEAD.fullmatch(data):
+        blocks, end = writers_at(data, 0)
+        if end < len(data):
             return False
-        bodies = BODY.findall(data)
-        if not all(map(WRITES.search, bodies)):
-            return False
-        blocks = [Block(body, body.count(b"\n")) for body in bodies]
 
         def tell(outcomes: List[Outcome]) -> None:
-            for block, outcome in zip(blocks, outcomes):
-                self.begun += 1
-                answers = outcome.answers or [outcome.end] * block.number
-                self.tell(b"BEGUN %d\n%s\n%s\n" % (self.begun, b"\n".join(answers), outcome.end))
+            first, self.begun = self.begun + 1, self.begun + len(blocks)
+            self.tell(b"".join([b"BEGUN %d\n%s" % it for it in enumerate(outcomes, first)]))
 
-        self.fly(blocks, tell)
+        self.fly(blocks, len(data), tell)
         return True
 
-    def fly(self, blocks: List[Block], tell: Callable[[List[Outcome]], None]) -> None:
-        """Blocks go into the log, and what they come to is told, with no task."""
+    def fly(self, blocks: List[Block], size: int, tell: Callable[[List[Outcome]], None]) -> None:
+        """Blocks of so many bytes go into the log, and what they come to is told, with no task."""
 
         def land(outcomes: List[Outcome]) -> None:
             tell(outcomes)
             self.flying -= 1
+            self.flying_bytes -= size
             if not self.flying:
                 self.landed.set()
 
         self.flying += 1
+        self.flying_bytes += size
         self.replica.hand_in(blocks, self.limit, land)
 
     def begin(self) -> None:
@@ -125,18 +139,10 @@ class Session:
                 self.landed.clear()
                 await self.landed.wait()
             self.is_current = None
-            rest = await self.take_reads(rest + data)
-            looks = may_have_http(rest)
-            *lines, rest = rest.split(b"\n")
-            rest = rest[:LONGEST + 1]
-            if rest and not data:
-                lines.append(rest)
-            for line in lines:
-                if looks and is_of_http(line):
-                    data = b""
-                    break
-                if not await self.take(line):
-                    return
+            taken = await self.take_text(await self.take_reads(rest + data), not data)
+            if taken is None:
+                return
+            rest = taken
             await self.answer_all()
             self.send()
             await self.writer.drain()
@@ -149,7 +155,7 @@ class Session:
     def tell(self, answers: bytes) -> None:
         """Answers to blocks of an entry, which are sent together."""
         if not self.told:
-            asyncio.get_running_loop().call_soon(self.flush)
+            self.replica.flushes.append(self.flush)
         self.told.append(answers)
 
     def flush(self, answers: bytes = b"") -> None:
@@ -158,6 +164,37 @@ class Session:
         self.writer.write(b"".join(told) + answers)
 
     # Lines
+
+    async def take_text(self, text: bytes, is_last: bool) -> Optional[bytes]:
+        """Lines, and whole transactions that write; the rest of the text, or None where the session ends."""
+        looks = may_have_http(text)
+        at = 0
+        while at < len(text):
+            if self.transaction is None and not looks:
+                at = await self.take_writes(text, at)
+            end = text.find(b"\n", at)
+            if end < 0 and not is_last or at == len(text):
+                break
+            line = text[at:end] if end >= 0 else text[at:at + LONGEST + 1]
+            at = end + 1 if end >= 0 else len(text)
+            if looks and is_of_http(line):
+                await self.answer_all()
+                self.send()
+                return None
+            if not await self.take(line):
+                return None
+        return text[at:at + LONGEST + 1]
+
+    async def take_writes(self, text: bytes, at: int) -> int:
+        """Whole transactions that stand in the text, whose lines are answered in their blocks' places; where they end."""
+        blocks, end = writers_at(text, at)
+        for block in blocks:
+            self.begun += 1
+            self.out += (b"BEGUN %d" % self.begun, block)
+            self.ahead += len(block.body)
+            if self.ahead > AHEAD:
+                await self.settle()
+        return end
 
     async def take(self, line: bytes) -> bool:
         """One line; whether the session goes on."""
@@ -229,7 +266,7 @@ class Session:
         return other is not self
 
     async def commit(self, transaction: Transaction) -> None:
-        if transaction.only_reads() or transaction.has_stages or transaction.fault:
+        if transaction.only_reads() or transaction.has_stages or transaction.fault or not all(map(is_sure, transaction.pending)):
             await self.answer_all()
         if transaction.commits < 0 and transaction.only_reads():
             await self.look(transaction)
@@ -270,9 +307,7 @@ class Session:
         outcomes = iter(await self.replica.commit(blocks, self.limit))
         for one in rest:
             if isinstance(one, Block):
-                outcome = next(outcomes)
-                self.out += outcome.answers or [outcome.end] * (one.number - one.told)
-                self.out.append(outcome.end)
+                self.out.append(next(outcomes)[:-1])
             else:
                 self.out.append(one)
 
@@ -296,12 +331,8 @@ class Session:
         found = READS_AHEAD.match(text) if self.transaction is None else None
         if not found or not await self.is_new():
             return text
-        store = self.replica.store
-        store.free([])
         lines = found.group()
-        answers = store.raw(lines.replace(b"\nCOMMIT\n", b"\nABORT\n"), lines.count(b"\n"))
-        if b"\nERR FULL\n" in answers or b"\nERR MEMORY\n" in answers:
-            raise store.ended("memory was refused")
+        answers = self.replica.store.free_text(lines.replace(b"\nCOMMIT\n", b"\nABORT\n"), lines.count(b"\n"))
 
         def number(_: object) -> bytes:
             self.begun += 1

@@ -16,8 +16,9 @@ import uuid
 import zlib
 from typing import TYPE_CHECKING, Dict, List, NamedTuple, Optional, Tuple
 
+from .entries import FORM
 from .etcd import Message, Refused, decoded, deletion_of, encoded, put_of
-from .log import Event, Log
+from .log import Event, Log, told_by_floor
 from .store import StoreEnded, runs_of
 from .trace import TraceFault
 
@@ -116,7 +117,7 @@ async def is_newest(log: Log, floor: Event) -> bool:
 
 async def move_floor(log: Log, floor: Event, generation: int, snapshot: Snapshot, sums: List[str]) -> None:
     """Names the snapshot, which begins the next generation, unless another one has."""
-    value = {"generation": generation + 1, "since": floor.revision, "id": snapshot.name, "revision": snapshot.revision,
+    value = {"form": FORM, "generation": generation + 1, "since": floor.revision, "id": snapshot.name, "revision": snapshot.revision,
              "after": snapshot.after, "commits": snapshot.commits, "records": len(snapshot.records), "pieces": sums}
     put = put_of(floor.key, json.dumps(value).encode())
     await log.etcd.put_if({"key": put["key"], "target": "MOD", "mod_revision": str(floor.revision)}, put)
@@ -158,7 +159,7 @@ async def read(replica: Replica) -> int:
         kvs = (await log.etcd.get(log.floor.key)).get("kvs")
         if not kvs:
             return 0
-        told: Message = json.loads(decoded(kvs[0]["value"]))
+        told = told_by_floor(decoded(kvs[0]["value"]))
         if await found.have_all(log, told):
             break
         await asyncio.sleep(0.2)  # another has taken its place

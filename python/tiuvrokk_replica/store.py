@@ -1,22 +1,28 @@
 """The store behind a replica: a program that reads lines and answers each with one, which nobody else writes to.
 
+Lines may be sent whose answers nobody waits for: they are taken as they come, before those of any later lines.
+
 An open trial, a transaction that will be aborted, has a holder; it ends once anybody else needs the store."""
 from __future__ import annotations
 
 import os
+import re
 import select
 import subprocess
+from collections import deque
 from fcntl import fcntl
-from typing import Callable, Iterator, List, Optional, Tuple
+from typing import Callable, Deque, Iterator, List, NamedTuple, Optional
 
 from .lines import EVERYTHING, longest_answer, most_runs_of
 
-# What depends on this store's own past, and not on the log.
-OWN_FAULTS = frozenset((b"ERR MEMORY", b"ERR FULL", b"ERR RUNS"))
-# The words that an answer begins with. A store that has one session answers nothing BUSY.
-WORDS = frozenset(b"BEGUN VAL NONE ROWS OK EXISTS MISSING DELETED NOMARK COMMITTED ABORTED MOVED DONE IDLE CLEANED ERR".split())
-# Bytes that are written at once.
-ROOM = 60_000
+# A line that is no answer, or one that depends on this store's own past, and not on the log. A store that has one session answers
+# nothing BUSY.
+WRONG = re.compile(
+    rb"\n(?!(?:OK|BEGUN|COMMITTED|VAL|NONE|ROWS|EXISTS|MISSING|DELETED|NOMARK|ABORTED|MOVED|DONE|IDLE|CLEANED"
+    rb"|ERR(?! (?:MEMORY|FULL|RUNS)\n))[ \n]|\Z)"
+)
+# Bytes that are written at once, and read.
+ROOM, READ = 60_000, 1 << 16
 SET_PIPE_SIZE = 1031  # fcntl's F_SETPIPE_SZ, which Python has from 3.10 on
 # Bytes of answers that are asked for at once.
 PORTION = 4_000_000
@@ -33,6 +39,13 @@ class StoreEnded(Exception):
     """The store may differ from those of the other replicas."""
 
 
+class Awaited(NamedTuple):
+    """Answers to so many lines, and who takes them, each with its LF."""
+
+    lines: int
+    take: Callable[[bytes], object]
+
+
 class Store:
     """The program, by its pipes."""
 
@@ -42,8 +55,10 @@ class Store:
         self.has_ghosts = False  # that trials and deletions may have left
         self.on_begin: Callable[[], object] = lambda: None
         self.on_end: Callable[[], object] = lambda: None
-        # Lines that go with the next ones, and who takes the answers.
-        self.owed: List[Tuple[bytes, Callable[[bytes], None]]] = []
+        self.owed = b""  # lines that go with the next ones
+        self.awaited: Deque[Awaited] = deque()  # of what was sent, and of these
+        self.parts: List[bytes] = []  # of the first ones' answers, as far as they came, and how many there are
+        self.count = 0
         self.fault = ""  # why nothing more is asked
         self.begin()
 
@@ -68,82 +83,121 @@ class Store:
             except OSError:
                 pass  # a smaller one serves too
         os.set_blocking(self.into, False)
+        self.reading, self.both = select.poll(), select.poll()
+        for poll in (self.reading, self.both):
+            poll.register(self.out, select.POLLIN)
+        self.both.register(self.into, select.POLLOUT)
         self.on_begin()
 
     def ask(self, lines: List[bytes]) -> List[bytes]:
         """The answers to some lines, whatever trial is open."""
-        return self.ask_text(b"".join(line + b"\n" for line in lines), len(lines))
+        return self.ask_text(b"".join(line + b"\n" for line in lines), len(lines)).split(b"\n")[:-1]
 
-    def ask_text(self, text: bytes, count: int) -> List[bytes]:
-        """The answers to so many lines, each of which has its LF."""
-        owed, self.owed = self.owed, []
-        if owed:
-            text = b"".join(line + b"\n" for line, _ in owed) + text
-        if not text:
-            return []
-        self.runs += most_runs_of(text)
-        answers = self.raw(text, len(owed) + count).split(b"\n")[:-1]
-        for answer in answers:
-            if answer.partition(b" ")[0] not in WORDS or answer in OWN_FAULTS:
-                raise self.ended(f"it answered {answer[:100].decode('ascii', 'replace')}")
-        for (_, take), answer in zip(owed, answers):
-            take(answer)
-        return answers[len(owed):]
+    def ask_text(self, text: bytes, count: int) -> bytes:
+        """The answers to so many lines. Each line has its LF, and so has each answer."""
+        found: List[bytes] = []
+        self.send(text, count, found.append)
+        while count and not found:
+            self.read()
+        return b"".join(found)
 
-    def ask_later(self, line: bytes, take: Callable[[bytes], None]) -> None:
-        """A line whose answer isn't awaited: it goes with the next lines, or with `flush`."""
-        self.owed.append((line, take))
+    def ask_later(self, line: bytes, take: Callable[[bytes], object]) -> None:
+        """A line that goes with the next lines, or with `flush`."""
+        self.owed += line + b"\n"
+        self.awaited.append(Awaited(1, take))
 
     def flush(self) -> None:
-        self.ask_text(b"", 0)
+        if self.owed:
+            self.send(b"", 0, lambda answers: None)
 
-    def raw(self, text: bytes, count: int) -> bytes:
-        """The answers to so many lines, as they come."""
+    def send(self, text: bytes, count: int, take: Callable[[bytes], object]) -> None:
+        """So many lines, whose answers are taken once they come."""
+        text, self.owed = self.owed + text, b""
+        self.runs += most_runs_of(text)
+        if count:
+            self.awaited.append(Awaited(count, take))
+        self.write(text)
+
+    def write(self, text: bytes) -> None:
+        """Lines, while answers are read as they come."""
         if self.fault:
             raise StoreEnded(self.fault)
-        parts: List[bytes] = []
+        left = memoryview(text)
+        while left:
+            try:
+                left = left[os.write(self.into, left[:ROOM]):]
+            except BlockingIOError:
+                pass
+            except OSError as fault:
+                raise self.ended(str(fault)) from fault
+            if left and self.out in dict(self.both.poll()):
+                self.read()
+
+    def hear(self) -> None:
+        """Answers, as far as some have come."""
+        if self.reading.poll(0):
+            self.read()
+
+    def read(self) -> None:
+        """Waits for answers, and has them taken."""
+        if self.fault:
+            raise StoreEnded(self.fault)
         try:
-            left, poll = memoryview(text), select.poll()
-            left = left[os.write(self.into, left[:ROOM]):]
-            if left:
-                poll.register(self.into, select.POLLOUT)
-                poll.register(self.out, select.POLLIN)
-            while count > 0:
-                if left:
-                    ready = dict(poll.poll())
-                    if self.into in ready:
-                        left = left[os.write(self.into, left[:ROOM]):]
-                    if self.out not in ready:
-                        continue
-                data = os.read(self.out, 1 << 20)
-                if not data:
-                    raise self.ended("it ended")
-                parts.append(data)
-                count -= data.count(b"\n")
+            data = os.read(self.out, READ)
         except OSError as fault:
             raise self.ended(str(fault)) from fault
-        if count < 0 or not parts[-1].endswith(b"\n"):
-            raise self.ended("it answered more than it was asked")
-        return b"".join(parts)
+        if not data:
+            raise self.ended("it ended")
+        while data:
+            if not self.awaited:
+                raise self.ended("it answered more than it was asked")
+            missing = self.awaited[0].lines - self.count
+            lines = data.count(b"\n")
+            if lines < missing:
+                self.parts.append(data)
+                self.count += lines
+                return
+            rest = data.split(b"\n", missing)[missing] if lines > missing or data[-1] != 10 else b""
+            self.parts.append(data[:len(data) - len(rest)])
+            data = rest
+            self.take()
+
+    def take(self) -> None:
+        """The first answers are whole."""
+        answers, self.parts, self.count = b"".join(self.parts), [], 0
+        wrong = WRONG.search(b"\n" + answers)
+        if wrong:
+            answer = answers[wrong.start():].split(b"\n", 1)[0]
+            raise self.ended(f"it answered {answer[:100].decode('ascii', 'replace')}")
+        self.awaited.popleft().take(answers)
 
     def free(self, lines: List[bytes]) -> List[bytes]:
         """The answers to some lines, once no trial is open."""
-        return self.free_text(b"".join(line + b"\n" for line in lines), len(lines))
+        return self.free_text(b"".join(line + b"\n" for line in lines), len(lines)).split(b"\n")[:-1]
 
-    def free_text(self, text: bytes, count: int) -> List[bytes]:
-        """The answers to so many lines, each of which has its LF, once no trial is open."""
-        before = [] if self.holder is None else [b"ABORT"]
+    def free_text(self, text: bytes, count: int) -> bytes:
+        """The answers to so many lines, as `ask_text` has them, once no trial is open."""
+        self.end_trial()
+        return self.ask_text(text, count)
+
+    def send_free(self, text: bytes, count: int, take: Callable[[bytes], object]) -> None:
+        """Lines as `send` has them, once no trial is open."""
+        self.end_trial()
+        self.send(text, count, take)
+
+    def end_trial(self) -> None:
+        """No trial is open once the next lines come, and what trials left is cleaned."""
+        if self.holder is not None:
+            self.holder = None
+            self.ask_later(b"ABORT", lambda answer: None)
         if self.has_ghosts:
-            before.append(CLEAN)
-        self.holder = None
+            self.has_ghosts = False
+            self.ask_later(CLEAN, self.cleaned)
         if self.runs > RUNS:
-            self.ask(before)
             self.renew()
-            before = []
-        answers = self.ask_text(b"".join(line + b"\n" for line in before) + text, len(before) + count)
-        if self.has_ghosts and before:
-            self.has_ghosts = answers[len(before) - 1] == b"CLEANED 64"
-        return answers[len(before):]
+
+    def cleaned(self, answer: bytes) -> None:
+        self.has_ghosts = self.has_ghosts or answer == b"CLEANED 64\n"
 
     def answers(self, lines: List[bytes]) -> Iterator[bytes]:
         """The answers to some lines, one by one, once no trial is open. No more of them is held than PORTION and one more."""
@@ -190,6 +244,7 @@ class Store:
                 raise self.ended("records can't be loaded")
 
     def close(self) -> None:
+        self.on_end()
         self.process.kill()
         self.process.wait()
 

@@ -15,16 +15,17 @@ use Rattle.am_record.specs.declared.step.Reply.TheVariants.{Begun, Committed, Ab
 use Rattle.am_record.proofs.Lists.{AllByRecursion-map, heads, tails}
 use Rattle.am_record.proofs.ByNumber.{of_number-all, of_number-map, of_number-known}
 use Rattle.am_record.specs.Events.{Event}
-use Rattle.am_serial.specs.Trace.{Trace, Answered, Answers, answered_to, effect, effect_of_do, effects, body, ops_of}
-use Rattle.am_serial.specs.Trace.{replies_of, IsAnsweredAlone}
-use Rattle.am_serial.specs.Machine.{State, Transaction, is_open, body_in}
-use Rattle.am_replies.specs.declared.active.Active.{Active}
+use Rattle.am_law_serial.specs.Trace.{Trace, Answered, Answers, answered_to, effect, effect_of_do, effects, body}
+use Rattle.am_law_serial.specs.Trace.{ops_of}
+use Rattle.am_law_serial.specs.Trace.{replies_of, IsAnsweredAlone}
+use Rattle.am_law_serial.specs.Machine.{State, Transaction, is_open, body_in}
+use Rattle.am_audit_replies.specs.declared.active.Active.{Active}
 use Rattle.am_audit.specs.declared.checker.Checker.{Checker}
 use Rattle.am_audit.specs.Faults.{IsFirstWrongAnswer}
-use Rattle.am_replies.specs.OwnAnswers.{PlacedAnswer, answered_of, Listed, listed, is_listed}
+use Rattle.am_audit_replies.specs.OwnAnswers.{PlacedAnswer, answered_of, Listed, listed, is_listed}
 use Rattle.am_audit.specs.Progress.{answers_from, answers_at}
-use Rattle.am_replies.specs.OwnAnswers.{own_in, IsFirstWrong}
-use Rattle.am_audit.specs.Progress.{Bodies, list_of, Progress, IsAt}
+use Rattle.am_audit_replies.specs.OwnAnswers.{own_in, IsFirstWrong}
+use Rattle.am_audit.specs.Progress.{Bodies, list_of, Progress, HasChecked}
 use Rattle.am_audit.proofs.EventSteps.{is_active}
 
 -- ---- what is listed of an active transaction
@@ -47,35 +48,36 @@ own_are bodies txs t on =
     ∙ of_number-known (λ (x : Transaction). x.0) (λ x. bodies x.0) [] (λ ps. ps ≡ bodies t) t (λ x e. ap bodies e) txs
     on
 
-module _ (p : Checker) (here : Progress) (h : IsAt p here) (all : List Active) (is : all ≡ p.active.items) (t : ℕ) where
-  abbrev s : State
-  s = here.state
+module _ (p : Checker) (here : Progress) (h : HasChecked p here) (all : List Active) (is : all ≡ p.active.items) (t : ℕ)
+  where
+    abbrev s : State
+    s = here.state
 
-  pub listed_open : is_listed (map listed all) t ≡ is_open s.active t
-  listed_open = ap (λ (xs : List Active). is_listed (map listed xs) t) is ∙ is_active p here h t
+    pub listed_open : is_listed (map listed all) t ≡ is_open s.active t
+    listed_open = ap (λ (xs : List Active). is_listed (map listed xs) t) is ∙ is_active p here h t
 
-  pub own_placed : is_open s.active t ≡ true → own_in (map listed all) t ≡ here.bodies t
-  own_placed on = ap (λ (xs : List Active). own_in (map listed xs) t) is ∙ ap (λ (xs : List Listed). own_in xs t)
-      h.active ∙ own_are here.bodies s.active t on
+    pub own_placed : is_open s.active t ≡ true → own_in (map listed all) t ≡ here.bodies t
+    own_placed on = ap (λ (xs : List Active). own_in (map listed xs) t) is ∙ ap (λ (xs : List Listed). own_in xs t)
+        h.active ∙ own_are here.bodies s.active t on
 
-  pub body_placed : is_open s.active t ≡ true → body_in s.active t ≡ answered_of (here.bodies t)
-  body_placed on = body_is here.bodies s.active h.ordinary.made t on
+    pub body_placed : is_open s.active t ≡ true → body_in s.active t ≡ answered_of (here.bodies t)
+    body_placed on = body_is here.bodies s.active h.ordinary.made t on
 
-  pub counted : (o : Option ℕ) → IfSome o (λ n. (is_listed (map listed all) t ≡ true) ×
-      (n ≡ length (own_in (map listed all) t))) → IfSome o (λ n. (is_open s.active t ≡ true) ×
-      (n ≡ length (body_in s.active t)))
-  counted None f = tt
-  counted (Some n) f =
-      let on : is_open s.active t ≡ true = sym listed_open ∙ f.0 in (
-        on,
-        f.1 ∙ ap length (own_placed on) ∙ sym (ap length (body_placed on) ∙
-            length-map (here.bodies t) (λ (q : PlacedAnswer). q.1)),
-      )
+    pub counted : (o : Option ℕ) → IfSome o (λ n. (is_listed (map listed all) t ≡ true) ×
+        (n ≡ length (own_in (map listed all) t))) → IfSome o (λ n. (is_open s.active t ≡ true) ×
+        (n ≡ length (body_in s.active t)))
+    counted None f = tt
+    counted (Some n) f =
+        let on : is_open s.active t ≡ true = sym listed_open ∙ f.0 in (
+          on,
+          f.1 ∙ ap length (own_placed on) ∙ sym (ap length (body_placed on) ∙
+              length-map (here.bodies t) (λ (q : PlacedAnswer). q.1)),
+        )
 
-  pub not_counted : (o : Option ℕ) → IfNone o (is_listed (map listed all) t ≡ false) →
-      IfNone o (is_open s.active t ≡ false)
-  not_counted None f = sym listed_open ∙ f
-  not_counted (Some n) f = tt
+    pub not_counted : (o : Option ℕ) → IfNone o (is_listed (map listed all) t ≡ false) →
+        IfNone o (is_open s.active t ≡ false)
+    not_counted None f = sym listed_open ∙ f
+    not_counted (Some n) f = tt
 
 -- ---- one event that answers
 

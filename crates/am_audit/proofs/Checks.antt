@@ -9,19 +9,20 @@ use Rattle.std.proofs.lemmas.List.{take_more}
 use Rattle.am_record.specs.declared.step.Step.{Step}
 use Rattle.am_record.specs.declared.step.Reply.{Reply}
 use Rattle.am_record.specs.Events.{Event}
-use Rattle.am_serial.specs.Trace.{Trace, effects, committers}
-use Rattle.am_serial.specs.FormedTraces.{IsFormed, FormedLaws}
-use Rattle.am_serial.specs.Legal.{IsLegal}
-use Rattle.am_serial.specs.Machine.{State, start, after_run}
+use Rattle.am_law_serial.specs.Trace.{Trace, effects, committers}
+use Rattle.am_law_serial.specs.FormedTraces.{IsFormed, FormedLaws}
+use Rattle.am_law_serial.specs.Legal.{IsLegal}
+use Rattle.am_law_serial.specs.Machine.{State, start, after_run}
 use Rattle.am_audit.specs.declared.fault.Fault.{Fault}
 use Rattle.am_audit.specs.declared.fault.Fault.TheVariants.{Wrong, NoMemory}
-use Rattle.am_replies.specs.declared.event_fault.EventFault.{EventFault}
-use Rattle.am_replies.specs.declared.event_fault.EventFault.TheVariants.{Form, Busy, Answer, NoMemory as Starved}
+use Rattle.am_audit_replies.specs.declared.event_fault.EventFault.{EventFault}
+use Rattle.am_audit_replies.specs.declared.event_fault.EventFault.TheVariants.{Form, Busy, Answer, NoMemory as Starved}
 use Rattle.am_audit.specs.declared.checker.Checker.{Checker}
 use Rattle.am_audit.specs.Faults.{IsTrueFault}
 use Rattle.am_audit.specs.declared.trace_audit.Audit.{Audit}
 use Rattle.am_audit.specs.AuditStates.{IsSoFar, HasJudged}
-use Rattle.am_audit.specs.Progress.{answers_at, progress_of, IsAt, TakesEvent, IsEventFault, fault_of, position_told}
+use Rattle.am_audit.specs.Progress.{answers_at, progress_of, HasChecked, TakesEvent, IsEventFault, fault_of}
+use Rattle.am_audit.specs.Progress.{position_told}
 use Rattle.am_audit.proofs.Bodies.{first_wrong}
 use Rattle.am_audit.proofs.OwnMoments.{own_moment, stands_own, takes_there, flaw_there}
 use Rattle.am_audit.proofs.Progresses.{stands_on}
@@ -61,7 +62,7 @@ module _ (laws : (most_runs : ℕ) (trace : Trace) → IsFormed most_runs trace 
       record { t = there.t; formed = there.formed; commit = there.commit; answer = there.answer }
   flaw_here n step reply Starved none h w = tt
 
-  pub stands_here : (n : ℕ) → fault ≡ None → IsSoFar fault p seen → IsAt p (own_moment p n)
+  pub stands_here : (n : ℕ) → fault ≡ None → IsSoFar fault p seen → HasChecked p (own_moment p n)
   stands_here n none h = stands_own p (answers_at seen) (after_run start seen) (right_so_far none h).0 n
 
   pub goes_wrong : (n : ℕ) (step : Step) (reply : Reply) (q : Checker) (event_fault : EventFault) →

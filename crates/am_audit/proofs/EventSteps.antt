@@ -12,23 +12,23 @@ use Rattle.am_record.specs.declared.step.Step.TheVariants.{Begin, Do, Abort}
 use Rattle.am_record.specs.declared.step.Reply.{Reply}
 use Rattle.am_record.specs.declared.step.Reply.TheVariants.{Begun, Aborted, Refused}
 use Rattle.am_record.proofs.ByNumber.{has_number-map}
-use Rattle.am_locks.specs.OwnerLocks.{OwnerLocks}
-use Rattle.am_locks.specs.Table.{is_owner, entered, without_owner as released}
-use Rattle.am_serial.specs.Trace.{Begins, Aborts, Nothing, effect}
-use Rattle.am_serial.specs.Machine.{State, Transaction, is_open, May}
+use Rattle.am_store_locks.specs.OwnerLocks.{OwnerLocks}
+use Rattle.am_store_locks.specs.Table.{is_owner, entered, without_owner as released}
+use Rattle.am_law_serial.specs.Trace.{Begins, Aborts, Nothing, effect}
+use Rattle.am_law_serial.specs.Machine.{State, Transaction, is_open, May}
 use Rattle.am_audit.specs.declared.checker.Checker.{Checker}
-use Rattle.am_held_locks.specs.HeldLocks.{owner_of}
-use Rattle.am_replies.specs.OwnAnswers.{Listed, listed, is_listed}
-use Rattle.am_audit.specs.Progress.{list_of, Bodies, Progress, IsAt, NextIn}
+use Rattle.am_audit_locks.specs.HeldLocks.{owner_of}
+use Rattle.am_audit_replies.specs.OwnAnswers.{Listed, listed, is_listed}
+use Rattle.am_audit.specs.Progress.{list_of, Bodies, Progress, HasChecked, NextIn}
 use Rattle.am_audit.specs.Progress.{IsRightOf, TakesEvent}
-use Rattle.am_held_locks.proofs.Tables.{owners_are}
+use Rattle.am_audit_locks.proofs.Tables.{owners_are}
 use Rattle.am_audit.proofs.Progresses.{open_below, stands_still, stands_behind, no_answer, begins, aborts}
 
 -- ---- nothing is done
 
 pub takes_still : (most_runs : ℕ) (p : Checker) (here : Progress) (step : Step) (reply : Reply) →
     effect step reply ≡ Nothing →
-    IsRightOf most_runs here.state step reply → IsAt p here → TakesEvent most_runs here step reply p
+    IsRightOf most_runs here.state step reply → HasChecked p here → TakesEvent most_runs here step reply p
 takes_still most_runs p here step reply is right h = record {
   right = record { said = right; next = subst (NextIn here.state) (sym is) tt };
   stands = stands_still p here step reply is h;
@@ -47,7 +47,7 @@ pub may_begin_with : (most_runs : ℕ) (s : State) (reply : Reply) (t : ℕ) →
     May most_runs s Begin reply → MayBegin s t
 may_begin_with most_runs s reply t is f = let P : Reply → Type 0 = λ r. May most_runs s Begin r in subst P is f
 
-module _ (p : Checker) (here : Progress) (h : IsAt p here) (t : ℕ) (may : MayBegin here.state t) where
+module _ (p : Checker) (here : Progress) (h : HasChecked p here) (t : ℕ) (may : MayBegin here.state t) where
   abbrev s : State
   s = here.state
 
@@ -94,15 +94,17 @@ pub listed_is : (bodies : Bodies) (t : ℕ) (txs : List Transaction) → is_list
 listed_is bodies t txs = has_number-map (λ (x : Transaction). x.0) (λ (x : Listed). x.0) (list_of bodies) (λ x. refl)
     txs t
 
-pub is_active : (p : Checker) (here : Progress) → IsAt p here → (t : ℕ) → is_listed (map listed p.active.items) t ≡
+pub is_active : (p : Checker) (here : Progress) → HasChecked p here → (t : ℕ) → is_listed (map listed p.active.items)
+    t ≡
     is_open here.state.active t
 is_active p here h t = ap (λ (xs : List Listed). is_listed xs t) h.active ∙ listed_is here.bodies t here.state.active
 
-pub is_owned : (p : Checker) (here : Progress) → IsAt p here → (t : ℕ) → is_owner p.locks t ≡ is_open here.state.active
+pub is_owned : (p : Checker) (here : Progress) → HasChecked p here → (t : ℕ) →
+    is_owner p.locks t ≡ is_open here.state.active
     t
 is_owned p here h t = ap (λ (table : List OwnerLocks). is_owner table t) h.locks ∙ owners_are here.state.active t
 
-pub takes_abort : (most_runs : ℕ) (p p' : Checker) (here : Progress) (t : ℕ) (reply : Reply) → IsAt p here →
+pub takes_abort : (most_runs : ℕ) (p p' : Checker) (here : Progress) (t : ℕ) (reply : Reply) → HasChecked p here →
     is_open here.state.active t ≡ true → May most_runs here.state (Abort t) reply → p'.begun ≡ p.begun →
     p'.commits ≡ p.commits →
     p'.runs ≡ p.runs → map listed p'.active.items ≡ filter (λ (x : Listed). not (x.0 == t))

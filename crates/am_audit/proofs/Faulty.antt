@@ -13,13 +13,14 @@ use Rattle.am_record.specs.declared.step.Reply.{Reply}
 use Rattle.am_record.specs.declared.step.Reply.TheVariants.{Refused}
 use Rattle.am_record.proofs.Lists.{heads, tails}
 use Rattle.am_record.specs.Events.{Event}
-use Rattle.am_serial.specs.Trace.{Trace, Answered, Effect, Answers, Commits, answered_to, effect, effects, body, ops_of}
-use Rattle.am_serial.specs.Trace.{replies_of, committed, IsSerial, IsAnsweredAlone}
-use Rattle.am_serial.specs.Sound.{FormedAt, BusyRightAt}
-use Rattle.am_serial.specs.FormedTraces.{IsFormed, IsNextInOrder, FormedLaws}
+use Rattle.am_law_serial.specs.Trace.{Trace, Answered, Effect, Answers, Commits, answered_to, effect, effects, body}
+use Rattle.am_law_serial.specs.Trace.{ops_of}
+use Rattle.am_law_serial.specs.Trace.{replies_of, committed, IsSerial, IsAnsweredAlone}
+use Rattle.am_law_serial.specs.Sound.{FormedAt, BusyRightAt}
+use Rattle.am_law_serial.specs.FormedTraces.{IsFormed, IsNextInOrder, FormedLaws}
 use Rattle.am_audit.specs.declared.fault.FaultKind.{FaultKind}
 use Rattle.am_audit.specs.declared.fault.FaultKind.TheVariants.{Form, Busy, Answer}
-use Rattle.am_serial.specs.Legal.{IsLegal}
+use Rattle.am_law_serial.specs.Legal.{IsLegal}
 use Rattle.am_audit.specs.Faults.{IsFirstWrongAnswer, IsFault, IsFirstFault}
 use Rattle.am_audit.proofs.Moments.{event_at, moment_after, last_moment}
 

@@ -5,14 +5,15 @@ use Rattle.am_record.specs.declared.step.Step.{Step}
 use Rattle.am_record.specs.declared.step.Step.TheVariants.{Begin, Do, Commit, Abort}
 use Rattle.am_record.specs.declared.step.Reply.{Reply}
 use Rattle.am_record.specs.declared.step.Reply.TheVariants.{Begun, Committed, Aborted, Refused}
-use Rattle.am_serial.specs.Trace.{Trace, Answered, Effect, Begins, Answers, Commits, Aborts, Nothing, effect, effects}
-use Rattle.am_serial.specs.Trace.{committed, IsSerial, IsAnsweredAlone}
-use Rattle.am_serial.specs.Machine.{State, start, after_run, is_open, state_at}
-use Rattle.am_serial.specs.Sound.{FormedAt, BusyRightAt}
-use Rattle.am_serial.specs.FormedTraces.{IsFormed, IsNextInOrder, FormedLaws}
-use Rattle.am_replies.specs.declared.event_fault.EventFault.{EventFault}
-use Rattle.am_replies.specs.declared.event_fault.EventFault.TheVariants.{Form, Busy, Answer, NoMemory}
-use Rattle.am_serial.specs.Legal.{IsLegal}
+use Rattle.am_law_serial.specs.Trace.{Trace, Answered, Effect, Begins, Answers, Commits, Aborts, Nothing, effect}
+use Rattle.am_law_serial.specs.Trace.{effects}
+use Rattle.am_law_serial.specs.Trace.{committed, IsSerial, IsAnsweredAlone}
+use Rattle.am_law_serial.specs.Machine.{State, start, after_run, is_open, state_at}
+use Rattle.am_law_serial.specs.Sound.{FormedAt, BusyRightAt}
+use Rattle.am_law_serial.specs.FormedTraces.{IsFormed, IsNextInOrder, FormedLaws}
+use Rattle.am_audit_replies.specs.declared.event_fault.EventFault.{EventFault}
+use Rattle.am_audit_replies.specs.declared.event_fault.EventFault.TheVariants.{Form, Busy, Answer, NoMemory}
+use Rattle.am_law_serial.specs.Legal.{IsLegal}
 use Rattle.am_audit.specs.Faults.{EarlyRightAt, IsMisformed, IsWronglyBusy, IsFirstWrongAnswer, CommitsWrongly}
 use Rattle.am_audit.specs.Faults.{IsTrueFault}
 use Rattle.am_audit.specs.Progress.{FormedIn, EarlyIn, BusyIn, NextIn, IsRightIn, IsMisformedIn, IsWronglyBusyIn}

@@ -4,8 +4,8 @@ use Rattle.std.proofs.lemmas.List.{append-nil}
 use Rattle.am_record.specs.declared.step.Step.{Step}
 use Rattle.am_record.specs.declared.step.Reply.{Reply}
 use Rattle.am_record.specs.Events.{Event}
-use Rattle.am_serial.specs.Trace.{Trace, Effect, effect, effects, AtEachMoment}
-use Rattle.am_serial.specs.Sound.{EachEvent}
+use Rattle.am_law_serial.specs.Trace.{Trace, Effect, effect, effects, AtEachMoment}
+use Rattle.am_law_serial.specs.Sound.{EachEvent}
 
 module _ (P : List Effect → Step → Reply → Type 0) where
   each_push : (trace : Trace) (es : List Effect) (e : Event) → EachEvent P es trace → P (es ++ effects trace) e.0 e.1 →

@@ -11,15 +11,15 @@ use Rattle.am_record.specs.declared.step.Reply.{Reply}
 use Rattle.am_record.specs.declared.step.Reply.TheVariants.{Begun, Committed, Aborted, Refused}
 use Rattle.am_record.proofs.Lists.{AllByRecursion-map, AllByRecursion-push, AllByRecursion-filter, map-alike}
 use Rattle.am_record.proofs.ByNumber.{each_there, of_number-none}
-use Rattle.am_serial.specs.Trace.{Effect, Begins, Answers, Commits, Aborts, Nothing, effect}
-use Rattle.am_serial.specs.Machine.{State, Transaction, is_open, next}
-use Rattle.am_replies.specs.declared.event_fault.EventFault.{EventFault}
-use Rattle.am_replies.specs.declared.event_fault.EventFault.TheVariants.{Form, Busy, Answer, NoMemory}
+use Rattle.am_law_serial.specs.Trace.{Effect, Begins, Answers, Commits, Aborts, Nothing, effect}
+use Rattle.am_law_serial.specs.Machine.{State, Transaction, is_open, next}
+use Rattle.am_audit_replies.specs.declared.event_fault.EventFault.{EventFault}
+use Rattle.am_audit_replies.specs.declared.event_fault.EventFault.TheVariants.{Form, Busy, Answer, NoMemory}
 use Rattle.am_audit.specs.declared.checker.Checker.{Checker}
-use Rattle.am_replies.specs.OwnAnswers.{PlacedAnswer, answered_of, Listed, listed, own_in}
+use Rattle.am_audit_replies.specs.OwnAnswers.{PlacedAnswer, answered_of, Listed, listed, own_in}
 use Rattle.am_audit.specs.Progress.{Bodies, list_of, IsAtState}
-use Rattle.am_audit.specs.Progress.{added, Progress, IsAt, FormedIn, IsRightIn, IsMisformedIn, IsWronglyBusyIn}
-use Rattle.am_replies.specs.OwnAnswers.{IsFirstWrong}
+use Rattle.am_audit.specs.Progress.{added, Progress, HasChecked, FormedIn, IsRightIn, IsMisformedIn, IsWronglyBusyIn}
+use Rattle.am_audit_replies.specs.OwnAnswers.{IsFirstWrong}
 use Rattle.am_audit.specs.Progress.{TakesEvent, IsEventFault}
 use Rattle.am_audit.proofs.Progresses.{all_extended, open_below}
 use Rattle.am_audit.proofs.EventSteps.{listed_is}
@@ -114,7 +114,7 @@ module _ (p : Checker) (b : Bodies) (s : State) (h : IsAtState p b s) where
       (each_there (λ (x : Transaction). x.0) s.active)
 
   -- the audit stands where it tells itself
-  pub stands_own : (n : ℕ) → IsAt p (own_moment p n)
+  pub stands_own : (n : ℕ) → HasChecked p (own_moment p n)
   stands_own n =
       subst (λ x. IsAtState p (own_bodies p) x) (sym (state_is p b s h))
       (rebodied p b (own_bodies p) s (AllByRecursion-map (λ (x : Transaction). own_bodies p x.0 ≡ b x.0)

@@ -14,19 +14,19 @@ use Rattle.am_record.specs.declared.step.Op.TheVariants.{Load, Put}
 use Rattle.am_record.specs.declared.step.Step.TheVariants.{Do, Commit}
 use Rattle.am_record.specs.declared.step.Reply.{Reply}
 use Rattle.am_record.specs.declared.step.Reply.TheVariants.{Committed, Done, Refused}
-use Rattle.am_locks.specs.Table.{is_owner, with_locks, without_owner as released}
-use Rattle.am_serial.specs.Trace.{Answered, Answers, Commits, Nothing, effect, runs_made, ops_of, replies_of}
-use Rattle.am_serial.specs.Trace.{IsAnsweredAlone}
-use Rattle.am_serial.specs.Machine.{State, is_open, body_in, locks_in, view, is_full, due_early, May}
-use Rattle.am_replies.specs.declared.event_fault.EventFault.{EventFault}
-use Rattle.am_replies.specs.declared.event_fault.EventFault.TheVariants.{Form, Busy, Answer, NoMemory}
-use Rattle.am_replies.specs.declared.active.Active.{Active}
+use Rattle.am_store_locks.specs.Table.{is_owner, with_locks, without_owner as released}
+use Rattle.am_law_serial.specs.Trace.{Answered, Answers, Commits, Nothing, effect, runs_made, ops_of, replies_of}
+use Rattle.am_law_serial.specs.Trace.{IsAnsweredAlone}
+use Rattle.am_law_serial.specs.Machine.{State, is_open, body_in, locks_in, view, is_full, due_early, May}
+use Rattle.am_audit_replies.specs.declared.event_fault.EventFault.{EventFault}
+use Rattle.am_audit_replies.specs.declared.event_fault.EventFault.TheVariants.{Form, Busy, Answer, NoMemory}
+use Rattle.am_audit_replies.specs.declared.active.Active.{Active}
 use Rattle.am_audit.specs.declared.checker.Checker.{Checker}
-use Rattle.am_replies.specs.OwnAnswers.{PlacedAnswer, answered_of, Listed, listed, is_listed, own_in, with_own}
-use Rattle.am_replies.specs.OwnAnswers.{AreAnsweredOn}
-use Rattle.am_audit.specs.Progress.{Progress, IsAt, NextIn, IsRightOf, TakesEvent, IsEventFault}
-use Rattle.am_replies.specs.OwnAnswers.{left_by_all, IsFirstWrong, IsReplayFault}
-use Rattle.am_replies.specs.Refused.{refused_of}
+use Rattle.am_audit_replies.specs.OwnAnswers.{PlacedAnswer, answered_of, Listed, listed, is_listed, own_in, with_own}
+use Rattle.am_audit_replies.specs.OwnAnswers.{AreAnsweredOn}
+use Rattle.am_audit.specs.Progress.{Progress, HasChecked, NextIn, IsRightOf, TakesEvent, IsEventFault}
+use Rattle.am_audit_replies.specs.OwnAnswers.{left_by_all, IsFirstWrong, IsReplayFault}
+use Rattle.am_audit_replies.specs.Refused.{refused_of}
 use Rattle.am_audit.proofs.Progresses.{stands_behind, no_answer, answers, commits}
 use Rattle.am_audit.proofs.EventSteps.{takes_still, is_owned}
 use Rattle.am_audit.proofs.Bodies.{body_placed, own_placed, listed_open}
@@ -84,9 +84,9 @@ answer_effect t op (Refused why) h = absurd (false≢true (sym h))
 answer_effect t op _ h = refl
 
 -- the same but for the locks, which are the same too
-restored : (p p' : Checker) (here : Progress) → IsAt p here → p'.begun ≡ p.begun → p'.commits ≡ p.commits →
+restored : (p p' : Checker) (here : Progress) → HasChecked p here → p'.begun ≡ p.begun → p'.commits ≡ p.commits →
     p'.runs ≡ p.runs → map listed p'.active.items ≡ map listed p.active.items → p'.locks ≡ p.locks →
-    p'.committed ≡ p.committed → IsAt p' here
+    p'.committed ≡ p.committed → HasChecked p' here
 restored p p' here h b c r a l m = record {
   begun = b ∙ h.begun;
   commits = c ∙ h.commits;
@@ -97,14 +97,15 @@ restored p p' here h b c r a l m = record {
   ordinary = h.ordinary;
 }
 
-pub takes_refused : (most_runs : ℕ) (p p' : Checker) (here : Progress) (t : ℕ) (op : Op) (reply : Reply) → IsAt p here →
+pub takes_refused : (most_runs : ℕ) (p p' : Checker) (here : Progress) (t : ℕ) (op : Op) (reply : Reply) →
+    HasChecked p here →
     refused_of reply ≡ true → IsRightOf most_runs here.state (Do t op) reply →
     p'.begun ≡ p.begun → p'.commits ≡ p.commits → p'.runs ≡ p.runs → map listed p'.active.items ≡ map listed
     p.active.items → p'.locks ≡ p.locks → p'.committed ≡ p.committed → TakesEvent most_runs here (Do t op) reply p'
 takes_refused most_runs p p' here t op reply h refused right b c r a l m = takes_still most_runs p' here (Do t op) reply
     (refusal_nothing t op reply refused) right (restored p p' here h b c r a l m)
 
-module _ (full : Bool) (p : Checker) (here : Progress) (h : IsAt p here) (t : ℕ) (op : Op)
+module _ (full : Bool) (p : Checker) (here : Progress) (h : HasChecked p here) (t : ℕ) (op : Op)
     (none : due_early full here.state t op ≡ None) where
   abbrev s : State
   s = here.state
@@ -127,18 +128,19 @@ module _ (full : Bool) (p : Checker) (here : Progress) (h : IsAt p here) (t : �
       }
 
 -- what the transaction sees, by its operations that are kept
-pub seen_by : (p : Checker) (here : Progress) (h : IsAt p here) (all : List Active) → all ≡ p.active.items → (t : ℕ) →
+pub seen_by : (p : Checker) (here : Progress) (h : HasChecked p here) (all : List Active) → all ≡ p.active.items →
+    (t : ℕ) →
     is_open here.state.active t ≡ true → left_by_all (own_in (map listed all) t) p.committed ≡ view here.state t
 seen_by p here h all same t on =
     (λ i. left_by_all (own_placed p here h all same t on i) (h.committed i)) ∙
     ap (λ (done : List Answered). left_on (ops_of done) (fresh here.state.committed))
     (sym (body_placed p here h all same t on))
 
-pub stays_fresh : (p : Checker) (here : Progress) → IsAt p here → p.committed ≡ fresh p.committed.map
+pub stays_fresh : (p : Checker) (here : Progress) → HasChecked p here → p.committed ≡ fresh p.committed.map
 stays_fresh p here h = h.committed ∙ ap (λ (d : Draft). fresh d.map) (sym h.committed)
 
 -- the runs that are counted, as the machine counts them
-pub made_by : (full : Bool) (p : Checker) (here : Progress) (h : IsAt p here) (t : ℕ) (op : Op) (reply : Reply) →
+pub made_by : (full : Bool) (p : Checker) (here : Progress) (h : HasChecked p here) (t : ℕ) (op : Op) (reply : Reply) →
     due_early full here.state t op ≡ None → (all : List Active) → all ≡ p.active.items → (n : ℕ) →
     n ≡ runs_made (left_by_all (own_in (map listed all) t) p.committed).map op reply →
     n ≡ runs_made (view here.state t).map op reply
@@ -159,7 +161,7 @@ pub may_commit_with : (most_runs : ℕ) (s : State) (t : ℕ) (reply : Reply) (n
     MayCommit s t n
 may_commit_with most_runs s t reply n is f = let P : Reply → Type 0 = λ r. May most_runs s (Commit t) r in subst P is f
 
-module _ (most_runs : ℕ) (p : Checker) (here : Progress) (h : IsAt p here) (t : ℕ) (reply : Reply) (n : ℕ)
+module _ (most_runs : ℕ) (p : Checker) (here : Progress) (h : HasChecked p here) (t : ℕ) (reply : Reply) (n : ℕ)
     (is : reply ≡ Committed n)
     (formed : May most_runs here.state (Commit t) reply) where
   abbrev s1 : State

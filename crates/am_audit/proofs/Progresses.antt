@@ -18,20 +18,20 @@ use Rattle.am_record.proofs.Lists.{AllByRecursion-always, AllByRecursion-map, Al
 use Rattle.am_record.proofs.Lists.{AllByRecursion-filter}
 use Rattle.am_record.proofs.ByNumber.{AreOnce, AreOnce-RiseBy, RiseBy-map, RiseBy-push, RiseBy-filter, number_of_one}
 use Rattle.am_record.proofs.ByNumber.{RiseBy-with_changed, with_changed-none, with_changed-map, without_number-map}
-use Rattle.am_locks.specs.Table.{with_locks, entered, without_owner as released}
+use Rattle.am_store_locks.specs.Table.{with_locks, entered, without_owner as released}
 use Rattle.am_record.specs.Events.{Event}
-use Rattle.am_serial.specs.Trace.{Trace, Answered, Effect, Begins, Answers, Commits, Aborts, Nothing, answered_to}
-use Rattle.am_serial.specs.Trace.{effect, runs_made}
-use Rattle.am_serial.specs.Machine.{State, Transaction, start, after_run, is_open, locks_in, view, extended}
-use Rattle.am_serial.specs.Machine.{without_transaction, next}
-use Rattle.am_serial.proofs.Runs.{after_run-push}
+use Rattle.am_law_serial.specs.Trace.{Trace, Answered, Effect, Begins, Answers, Commits, Aborts, Nothing, answered_to}
+use Rattle.am_law_serial.specs.Trace.{effect, runs_made}
+use Rattle.am_law_serial.specs.Machine.{State, Transaction, start, after_run, is_open, locks_in, view, extended}
+use Rattle.am_law_serial.specs.Machine.{without_transaction, next}
+use Rattle.am_law_serial.proofs.Runs.{after_run-push}
 use Rattle.am_audit.specs.declared.checker.Checker.{Checker}
-use Rattle.am_replies.specs.OwnAnswers.{PlacedAnswer, answered_of, Listed, listed, with_own}
+use Rattle.am_audit_replies.specs.OwnAnswers.{PlacedAnswer, answered_of, Listed, listed, with_own}
 use Rattle.am_audit.specs.Progress.{answers_from, answers_at}
-use Rattle.am_held_locks.specs.HeldLocks.{owner_of, RiseByNumber}
+use Rattle.am_audit_locks.specs.HeldLocks.{owner_of, RiseByNumber}
 use Rattle.am_audit.specs.Progress.{Bodies, list_of, IsAtState, added, Progress, progress_of}
-use Rattle.am_audit.specs.Progress.{progress_after, IsAt}
-use Rattle.am_held_locks.proofs.Tables.{relocked_done, entered_is, released_is}
+use Rattle.am_audit.specs.Progress.{progress_after, HasChecked}
+use Rattle.am_audit_locks.proofs.Tables.{relocked_done, entered_is, released_is}
 
 -- ---- one more event
 
@@ -58,12 +58,13 @@ answers_at-push trace e t = answers_from-push trace 0 t e ∙ ap (λ k. answers_
 
 -- the audit stands after the event where it stands at what its effect makes
 pub stands_behind : (p : Checker) (here : Progress) (step : Step) (reply : Reply) (e : Effect) → effect step reply ≡ e →
-    IsAt p (progress_after here e) → IsAt p (progress_after here (effect step reply))
-stands_behind p here step reply e is h = subst (λ x. IsAt p (progress_after here x)) (sym is) h
+    HasChecked p (progress_after here e) → HasChecked p (progress_after here (effect step reply))
+stands_behind p here step reply e is h = subst (λ x. HasChecked p (progress_after here x)) (sym is) h
 
 -- and at the trace that the event makes longer
 pub stands_on : (p : Checker) (seen : Trace) (step : Step) (reply : Reply) →
-    IsAt p (progress_after (progress_of seen) (effect step reply)) → IsAt p (progress_of (seen ++ (step, reply) ∷ []))
+    HasChecked p (progress_after (progress_of seen) (effect step reply)) →
+    HasChecked p (progress_of (seen ++ (step, reply) ∷ []))
 stands_on p seen step reply at =
     let bodies : (λ (t : ℕ). answers_at seen t ++ added (length seen) t (effect step reply)) ≡ answers_at
     (seen ++ (step, reply) ∷ []) = λ i t. sym (answers_at-push seen (step, reply) t) i in
@@ -153,7 +154,7 @@ list_extended bodies n t op reply xs r =
 -- ---- by effect
 
 pub stands_still : (p : Checker) (here : Progress) (step : Step) (reply : Reply) → effect step reply ≡ Nothing →
-    IsAt p here → IsAt p (progress_after here (effect step reply))
+    HasChecked p here → HasChecked p (progress_after here (effect step reply))
 stands_still p here step reply is h =
     stands_behind p here step reply Nothing is (subst (λ (b : Bodies). IsAtState p b here.state)
     (sym (unchanged here.bodies)) h)

@@ -10,11 +10,11 @@ use Rattle.am_record.specs.declared.step.Step.TheVariants.{Do}
 use Rattle.am_record.specs.declared.step.Reply.{Reply}
 use Rattle.am_record.specs.declared.step.Reply.TheVariants.{Refused}
 use Rattle.am_record.specs.Refusals.{is_one_too_many}
-use Rattle.am_serial.specs.Machine.{State, is_full, due_early, blocker, locks_in}
-use Rattle.am_serial.specs.Sound.{FormedDo}
-use Rattle.am_serial.proofs.Sound.{not_answer, same_refusal}
-use Rattle.am_replies.specs.Refused.{is_early}
-use Rattle.am_replies.specs.Refused.{early_of, busy_of}
+use Rattle.am_law_serial.specs.Machine.{State, is_full, due_early, blocker, locks_in}
+use Rattle.am_law_serial.specs.Sound.{FormedDo}
+use Rattle.am_law_serial.proofs.Sound.{not_answer, same_refusal}
+use Rattle.am_audit_replies.specs.Refused.{is_early}
+use Rattle.am_audit_replies.specs.Refused.{early_of, busy_of}
 use Rattle.am_audit.specs.Progress.{FormedIn, EarlyIn, IsRightOf, IsMisformedIn, IsWronglyBusyIn}
 
 early_of_due : (a b c d e : Bool) (why : Refusal) →

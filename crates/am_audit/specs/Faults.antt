@@ -9,12 +9,12 @@ use Rattle.am_record.specs.declared.step.Step.TheVariants.{Do}
 use Rattle.am_record.specs.declared.step.Reply.{Reply}
 use Rattle.am_record.specs.declared.step.Reply.TheVariants.{Refused}
 use Rattle.am_record.specs.Events.{Event}
-use Rattle.am_serial.specs.Trace.{Trace, Effect, Answers, Commits, effect, effects, body, ops_of, committed}
-use Rattle.am_serial.specs.Trace.{IsAnsweredAlone}
-use Rattle.am_serial.specs.Machine.{state_at, is_full, due_early}
-use Rattle.am_serial.specs.Sound.{FormedAt, BusyRightAt}
-use Rattle.am_serial.specs.Legal.{IsLegal}
-use Rattle.am_replies.specs.Refused.{is_early}
+use Rattle.am_law_serial.specs.Trace.{Trace, Effect, Answers, Commits, effect, effects, body, ops_of, committed}
+use Rattle.am_law_serial.specs.Trace.{IsAnsweredAlone}
+use Rattle.am_law_serial.specs.Machine.{state_at, is_full, due_early}
+use Rattle.am_law_serial.specs.Sound.{FormedAt, BusyRightAt}
+use Rattle.am_law_serial.specs.Legal.{IsLegal}
+use Rattle.am_audit_replies.specs.Refused.{is_early}
 use Rattle.am_audit.specs.declared.fault.FaultKind.{FaultKind}
 use Rattle.am_audit.specs.declared.fault.FaultKind.TheVariants.{Form, Busy, Answer}
 use Rattle.am_audit.specs.declared.fault.Fault.{Fault}

@@ -11,15 +11,16 @@ use Rattle.am_record.specs.declared.step.Step.TheVariants.{Do}
 use Rattle.am_record.specs.declared.step.Reply.{Reply}
 use Rattle.am_record.specs.declared.step.Reply.TheVariants.{Refused}
 use Rattle.am_record.specs.Refusals.{is_one_too_many}
-use Rattle.am_serial.specs.Trace.{Trace, Answered, Effect, Commits, answered_to, effect, IsAnsweredAlone}
-use Rattle.am_serial.specs.Machine.{State, Transaction, start, after_run, next, due_early, blocker, locks_in, body_in}
-use Rattle.am_serial.specs.Machine.{is_full, May}
-use Rattle.am_serial.specs.Sound.{FormedDo}
-use Rattle.am_held_locks.specs.HeldLocks.{owner_of, RiseByNumber}
-use Rattle.am_replies.specs.Refused.{is_early}
-use Rattle.am_replies.specs.OwnAnswers.{PlacedAnswer, answered_of, Listed, listed, IsFirstWrong}
-use Rattle.am_replies.specs.declared.event_fault.EventFault.{EventFault}
-use Rattle.am_replies.specs.declared.event_fault.EventFault.TheVariants.{Form, Busy, Answer, NoMemory}
+use Rattle.am_law_serial.specs.Trace.{Trace, Answered, Effect, Commits, answered_to, effect, IsAnsweredAlone}
+use Rattle.am_law_serial.specs.Machine.{State, Transaction, start, after_run, next, due_early, blocker, locks_in}
+use Rattle.am_law_serial.specs.Machine.{body_in}
+use Rattle.am_law_serial.specs.Machine.{is_full, May}
+use Rattle.am_law_serial.specs.Sound.{FormedDo}
+use Rattle.am_audit_locks.specs.HeldLocks.{owner_of, RiseByNumber}
+use Rattle.am_audit_replies.specs.Refused.{is_early}
+use Rattle.am_audit_replies.specs.OwnAnswers.{PlacedAnswer, answered_of, Listed, listed, IsFirstWrong}
+use Rattle.am_audit_replies.specs.declared.event_fault.EventFault.{EventFault}
+use Rattle.am_audit_replies.specs.declared.event_fault.EventFault.TheVariants.{Form, Busy, Answer, NoMemory}
 use Rattle.am_audit.specs.declared.fault.FaultKind.TheVariants.{Form as OfForm, Busy as OfBusy, Answer as OfAnswer}
 use Rattle.am_audit.specs.declared.fault.Fault.{Fault}
 use Rattle.am_audit.specs.declared.fault.Fault.TheVariants.{Wrong, NoMemory as NothingKnown}
@@ -82,8 +83,8 @@ progress_after here e = record {
   count = here.count + 1;
 }
 
-abbrev pub IsAt : Checker → Progress → Type 0
-IsAt p here = IsAtState p here.bodies here.state
+abbrev pub HasChecked : Checker → Progress → Type 0
+HasChecked p here = IsAtState p here.bodies here.state
 
 -- ---- one event, by the machine's state before it; the machine makes so many runs at most
 
@@ -118,7 +119,7 @@ pub record IsRightIn (most_runs : ℕ) (s : State) (step : Step) (reply : Reply)
 -- the event is right, and the audit stands after it
 pub record TakesEvent (most_runs : ℕ) (here : Progress) (step : Step) (reply : Reply) (p : Checker) : Type 0 where
   pub right : IsRightIn most_runs here.state step reply
-  pub stands : IsAt p (progress_after here (effect step reply))
+  pub stands : HasChecked p (progress_after here (effect step reply))
 
 -- ---- a fault of the event that comes next
 

@@ -2,19 +2,19 @@
 
 ghost use Rattle.std.specs.Prelude.{◌≡◌, ◌==◌, ℕ, not, map, filter, [], None, true, false, IfErr, IfOk, OnOk};
 ghost use Rattle.am_record.specs.declared.step.Step.TheVariants.{Begin, Do, Commit, Abort, Merge, Clean};
-ghost use Rattle.am_locks.specs.Table.{is_owner, without_owner};
-ghost use Rattle.am_serial.specs.Machine.{due_early, is_full};
-ghost use Rattle.am_replies.specs.OwnAnswers.{listed};
+ghost use Rattle.am_store_locks.specs.Table.{is_owner, without_owner};
+ghost use Rattle.am_law_serial.specs.Machine.{due_early, is_full};
+ghost use Rattle.am_audit_replies.specs.OwnAnswers.{listed};
 
 use crate::verdict::verdict;
-use am_held_locks::HeldLocks;
-use am_model::Plain;
-use am_record::{NoMemory, Op, Range, Reply, Step};
-use am_replies::{
+use am_audit_locks::HeldLocks;
+use am_audit_replies::{
     Active, EventFault, OwnAnswer, forget, is_active, is_early, is_full, is_refusal, is_refused,
     keep_answer, may_abort, may_begin, may_clean, may_commit, may_merge, operation_count,
     own_answers, refusal, replay, runs_made,
 };
+use am_record::{NoMemory, Op, Range, Reply, Step};
+use am_record_model::Plain;
 use std::alloc::Global;
 
 /// What the lines seen so far make.
@@ -32,15 +32,15 @@ pub(crate) struct Checker {
 }
 
 impl Checker {
-    ghost use Rattle.am_replies.specs.Refused.{early_of};
-    ghost use Rattle.am_audit.specs.Progress.{Progress, progress_of, IsAt, TakesEvent, IsEventFault};
+    ghost use Rattle.am_audit_replies.specs.Refused.{early_of};
+    ghost use Rattle.am_audit.specs.Progress.{Progress, progress_of, HasChecked, TakesEvent, IsEventFault};
 
     /// No line is seen.
     ///
     /// # Errors
     /// NoMemory, where memory was refused for the locks.
     pub(crate) fn new(alloc: Global, most_runs: u32) -> Result<Checker, NoMemory>
-        ensures stands { IfOk result (λ checker. IsAt checker (progress_of [])) }
+        ensures stands { IfOk result (λ checker. HasChecked checker (progress_of [])) }
         ensures most { IfOk result (λ checker. checker.most_runs ≡ most_runs) }
     {
         Ok(Checker {
@@ -66,7 +66,7 @@ impl Checker {
         reply: Reply,
     ) -> Result<(), EventFault>
         ghost here: { Progress }
-        requires stands { IsAt self.old here }
+        requires stands { HasChecked self.old here }
         requires position { position ≡ here.count }
         ensures takes { OnOk result (TakesEvent self.old.most_runs here step reply self.new) }
         ensures event_fault { IfErr result (IsEventFault self.old.most_runs here step reply) }
@@ -84,7 +84,7 @@ impl Checker {
 
     fn begin(&mut self, alloc: Global, reply: &Reply) -> Result<(), EventFault>
         ghost here: { Progress }
-        requires { IsAt self.old here }
+        requires { HasChecked self.old here }
         ensures takes { OnOk result (TakesEvent self.old.most_runs here Begin reply.now self.new) }
         ensures event_fault { IfErr result (IsEventFault self.old.most_runs here Begin reply.now) }
         ensures most { self.new.most_runs ≡ self.old.most_runs }
@@ -103,7 +103,7 @@ impl Checker {
 
     fn abort(&mut self, tx: u64, reply: &Reply) -> Result<(), EventFault>
         ghost here: { Progress }
-        requires { IsAt self.old here }
+        requires { HasChecked self.old here }
         ensures takes { OnOk result (TakesEvent self.old.most_runs here (Abort tx) reply.now self.new) }
         ensures event_fault { IfErr result (IsEventFault self.old.most_runs here (Abort tx) reply.now) }
         ensures most { self.new.most_runs ≡ self.old.most_runs }
@@ -120,7 +120,7 @@ impl Checker {
 
     fn commit(&mut self, tx: u64, reply: &Reply) -> Result<(), EventFault>
         ghost here: { Progress }
-        requires { IsAt self.old here }
+        requires { HasChecked self.old here }
         ensures takes { OnOk result (TakesEvent self.old.most_runs here (Commit tx) reply.now self.new) }
         ensures event_fault { IfErr result (IsEventFault self.old.most_runs here (Commit tx) reply.now) }
         ensures most { self.new.most_runs ≡ self.old.most_runs }
@@ -145,7 +145,7 @@ impl Checker {
 
     fn operate(&mut self, position: usize, tx: u64, op: Op, reply: Reply) -> Result<(), EventFault>
         ghost here: { Progress }
-        requires stands { IsAt self.old here }
+        requires stands { HasChecked self.old here }
         requires position { position ≡ here.count }
         ensures takes { OnOk result (TakesEvent self.old.most_runs here (Do tx op) reply self.new) }
         ensures event_fault { IfErr result (IsEventFault self.old.most_runs here (Do tx op) reply) }
@@ -167,7 +167,7 @@ impl Checker {
     // The operation is one to which no early refusal is due.
     fn perform(&mut self, position: usize, tx: u64, op: Op, reply: Reply) -> Result<(), EventFault>
         ghost at: { ℕ × Progress }
-        requires stands { IsAt self.old at.1 }
+        requires stands { HasChecked self.old at.1 }
         requires position { position ≡ at.1.count }
         requires early { due_early (is_full at.0 at.1.state.runs reply) at.1.state tx op ≡ None }
         requires not_early { early_of reply ≡ false }
@@ -200,7 +200,7 @@ impl Checker {
 
     fn merge(&mut self, limit: u64, reply: &Reply) -> Result<(), EventFault>
         ghost here: { Progress }
-        requires { IsAt self.old here }
+        requires { HasChecked self.old here }
         ensures takes { OnOk result (TakesEvent self.old.most_runs here (Merge limit) reply.now self.new) }
         ensures event_fault { IfErr result (IsEventFault self.old.most_runs here (Merge limit) reply.now) }
         ensures most { self.new.most_runs ≡ self.old.most_runs }
@@ -213,7 +213,7 @@ impl Checker {
 
     fn clean(&mut self, range: Range, limit: u64, reply: &Reply) -> Result<(), EventFault>
         ghost here: { Progress }
-        requires { IsAt self.old here }
+        requires { HasChecked self.old here }
         ensures takes { OnOk result (TakesEvent self.old.most_runs here (Clean range limit) reply.now self.new) }
         ensures event_fault { IfErr result (IsEventFault self.old.most_runs here (Clean range limit) reply.now) }
         ensures most { self.new.most_runs ≡ self.old.most_runs }

@@ -1,8 +1,8 @@
 //! What a verdict excludes.
 
 ghost use Rattle.std.specs.Prelude.{◌≡◌, ℕ};
-ghost use Rattle.am_serial.specs.Trace.{Trace};
-ghost use Rattle.am_serial.specs.Legal.{IsLegal};
+ghost use Rattle.am_law_serial.specs.Trace.{Trace};
+ghost use Rattle.am_law_serial.specs.Legal.{IsLegal};
 ghost use Rattle.am_audit.specs.Faults.{IsFirstFault};
 ghost use Rattle.am_audit.specs.declared.fault.FaultKind.{FaultKind};
 
@@ -13,5 +13,5 @@ pub fn first_faults_exclude()
     ensures one { (most_runs : ℕ) (trace : Trace) (l m : ℕ) (j k : FaultKind) → IsFirstFault most_runs trace l j →
         IsFirstFault most_runs trace m k → (l ≡ m) × (j ≡ k) }
 {
-    am_serial::formed_traces_follow();
+    am_law_serial::formed_traces_follow();
 }

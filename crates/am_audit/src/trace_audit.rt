@@ -2,15 +2,15 @@
 
 ghost use Rattle.std.specs.Prelude.{◌≡◌, ℕ, ◌+◌, ◌<◌, ◌^◌, ◌++◌, ◌∷◌, [], length, IfOk, IfErr, OnOk};
 ghost use Rattle.std.specs.FinMap.{entries};
-ghost use Rattle.am_serial.specs.Trace.{Trace, effects, committers, committed};
-ghost use Rattle.am_serial.specs.Legal.{IsLegal};
+ghost use Rattle.am_law_serial.specs.Trace.{Trace, effects, committers, committed};
+ghost use Rattle.am_law_serial.specs.Legal.{IsLegal};
 ghost use Rattle.am_audit.specs.Faults.{IsTrueFault};
 ghost use Rattle.am_audit.specs.Progress.{fault_of, position_told};
 
 use crate::checker::Checker;
 use crate::fault::{Fault, FaultKind};
+use am_audit_replies::EventFault;
 use am_record::{Key, NoMemory, Reply, Step, Value};
-use am_replies::EventFault;
 use std::alloc::Global;
 
 /// A trace that is judged as it comes, an event at a time. Of its events those alone are kept that belong to active
@@ -57,7 +57,7 @@ impl Audit {
         ensures { (most_runs : ℕ) (seen : Trace) → HasJudged most_runs self.old seen →
             HasJudged most_runs self.new (seen ++ (step, reply) ∷ []) }
     {
-        am_serial::formed_traces_follow();
+        am_law_serial::formed_traces_follow();
         if self.fault.is_none() {
             if let Err(event_fault) = self.checker.judge(alloc, self.seen, step, reply) {
                 self.fault = Some(fault_of(self.seen, event_fault));
@@ -92,7 +92,7 @@ impl Audit {
         ensures wrong { IfErr result (λ fault. (most_runs : ℕ) (seen : Trace) →
             HasJudged most_runs self.now seen → IsTrueFault most_runs seen fault) }
     {
-        am_serial::formed_traces_follow();
+        am_law_serial::formed_traces_follow();
         match self.fault {
             Some(fault) => Err(fault),
             None => Ok(self.checker.commits),
@@ -111,7 +111,7 @@ impl Audit {
         ensures wrong { IfErr result (λ fault. (most_runs : ℕ) (seen : Trace) →
             HasJudged most_runs self.now seen → IsTrueFault most_runs seen fault) }
     {
-        am_serial::formed_traces_follow();
+        am_law_serial::formed_traces_follow();
         if let Some(fault) = self.fault {
             return Err(fault);
         }

@@ -3,14 +3,14 @@
 ghost use Rattle.std.specs.Prelude.{◌≡◌, ℕ, None, false, IfErr, OnOk};
 ghost use Rattle.am_record.specs.Asks.{lock_of};
 ghost use Rattle.am_record.specs.declared.step.Step.TheVariants.{Do};
-ghost use Rattle.am_serial.specs.Machine.{State, due_early, is_full};
-ghost use Rattle.am_held_locks.specs.HeldLocks.{IsAnswerTo};
-ghost use Rattle.am_replies.specs.Refused.{early_of, refused_of};
+ghost use Rattle.am_law_serial.specs.Machine.{State, due_early, is_full};
+ghost use Rattle.am_audit_locks.specs.HeldLocks.{IsAnswerTo};
+ghost use Rattle.am_audit_replies.specs.Refused.{early_of, refused_of};
 ghost use Rattle.am_audit.specs.Progress.{IsRightOf, IsReplyFault};
 
-use am_locks::Asked;
+use am_audit_replies::{EventFault, is_answer, is_busy, is_refused};
 use am_record::{Op, Refusal, Reply};
-use am_replies::{EventFault, is_answer, is_busy, is_refused};
+use am_store_locks::Asked;
 
 /// Judges the reply to an operation to which no early refusal is due, by what came of asking for its lock.
 ///

@@ -7,8 +7,8 @@ use Rattle.am_record.specs.declared.step.Op.TheVariants.{Scan, ScanBack}
 use Rattle.am_record.specs.declared.step.Step.TheVariants.{Do}
 use Rattle.am_record.specs.declared.step.Reply.{Reply}
 use Rattle.am_record.specs.declared.step.Reply.TheVariants.{Rows}
-use Rattle.am_sound.specs.StoreState.{StoreState}
-use Rattle.am_core.specs.StoreSteps.{IsWithin}
+use Rattle.am_law_sound.specs.StoreState.{StoreState}
+use Rattle.am_store.specs.StoreSteps.{IsWithin}
 use Rattle.am_c_steps.specs.declared.status.Status.{Status}
 use Rattle.am_c_steps.specs.AnswerParts.{rows_in}
 use Rattle.am_c_steps.specs.AskedSteps.{scan_asked, scan_back_asked, of_one}

@@ -12,7 +12,7 @@ use Rattle.am_c_steps.specs.declared.status.Status.TheVariants.{BadKey, BadValue
 use Rattle.am_c_steps.specs.declared.structs.Layout.{Layout}
 use Rattle.am_c_steps.specs.Texts.{of_both, key_given, value_given}
 use Rattle.am_c_steps.specs.Structs.{key_in, value_in, struct_at, struct_given, structs_given, records_given}
-use Rattle.am_c_steps.specs.Structs.{IsSound, AreWhole}
+use Rattle.am_c_steps.specs.Structs.{IsLayout, AreWholeStructs}
 
 abbrev Pair : Type 0
 Pair = OrderedKey × List ℕ
@@ -52,7 +52,7 @@ stands_at l bytes (suc n) (suc at) d low =
     ∙ ap (λ bs. record_of l (take l.size bs)) (sym (drop-drop (at * l.size) l.size bytes))
     ∙ stands_at l (drop l.size bytes) n at d (omega arith)
 
-module _ (l : Layout) (sound : IsSound l) where
+module _ (l : Layout) (sound : IsLayout l) where
   key_made : (bytes : List ℕ) → l.size ≤ length bytes → key_in l bytes ≡ Ok (record_of l bytes).0
   key_made bytes whole =
       let key = take l.key_length (drop l.key_at bytes) in
@@ -78,7 +78,7 @@ module _ (l : Layout) (sound : IsSound l) where
       (record_made (take l.size bytes) (first_whole l.size n bytes whole) j)
       (all_made (drop l.size bytes) n (rest_whole l.size n bytes whole) j)
 
-module _ (l : Layout) (bytes : List ℕ) (n : ℕ) (are : AreWhole l bytes n) where
+module _ (l : Layout) (bytes : List ℕ) (n : ℕ) (are : AreWholeStructs l bytes n) where
   given : structs_given l bytes n ≡ Ok (records_of l bytes n)
   given = all_made l are.layout bytes n are.whole
 

@@ -2,8 +2,8 @@
 use Rattle.std.specs.Prelude.{Result, Ok, Err}
 use Rattle.am_record.specs.declared.step.Reply.{Reply}
 use Rattle.am_record.specs.declared.step.Reply.TheVariants.{Exists}
-use Rattle.am_runs.specs.declared.fault.LoadFault.{LoadFault}
-use Rattle.am_runs.specs.declared.fault.LoadFault.TheVariants as due
+use Rattle.am_store_runs.specs.declared.fault.LoadFault.{LoadFault}
+use Rattle.am_store_runs.specs.declared.fault.LoadFault.TheVariants as due
 use Rattle.am_c_steps.specs.declared.load_answers.LoadFailure.{LoadFailure}
 use Rattle.am_c_steps.specs.declared.load_answers.LoadFailure.TheVariants.{Twice, Other}
 use Rattle.am_c_steps.specs.declared.status.Status.{Status}

@@ -36,7 +36,7 @@ abbrev pub struct_at : Layout → List ℕ → ℕ → List ℕ
 struct_at l bytes at = take l.size (drop (at * l.size) bytes)
 
 -- a struct has bytes, and in them a key and a value that are no longer than they may be
-pub record IsSound (l : Layout) : Type 0 where
+pub record IsLayout (l : Layout) : Type 0 where
   pub some : 0 < l.size
   pub key : l.key_at + l.key_length ≤ l.size
   pub key_fits : l.key_length ≤ max_key_bytes
@@ -44,8 +44,8 @@ pub record IsSound (l : Layout) : Type 0 where
   pub value_fits : l.value_length ≤ max_value_bytes
 
 -- so many such structs stand one after another
-pub record AreWhole (l : Layout) (bytes : List ℕ) (count : ℕ) : Type 0 where
-  pub layout : IsSound l
+pub record AreWholeStructs (l : Layout) (bytes : List ℕ) (count : ℕ) : Type 0 where
+  pub layout : IsLayout l
   pub whole : count * l.size ≤ length bytes
 
 -- their records

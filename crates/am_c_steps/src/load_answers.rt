@@ -6,7 +6,7 @@ ghost use Rattle.am_c_steps.specs.LoadAnswers.{failure_of, without_key, load_key
 use crate::status::Status;
 use crate::text::KeyText;
 use am_record::{Key, Reply};
-use am_runs::LoadFault;
+use am_store_runs::LoadFault;
 
 /// Why nothing is loaded.
 #[derive(Clone, Copy)]

@@ -4,12 +4,12 @@ ghost use Rattle.std.specs.Prelude.{◌≡◌, ◌≤◌, ◌↔◌, ◌⊎◌, 
 ghost use Rattle.std.specs.Prelude.{IsSome, IfSome, OnOk, IfErr, Ok, Err};
 ghost use Rattle.am_c_steps.specs.declared.status.Status.TheVariants.{NoMemory};
 ghost use Rattle.am_c_steps.specs.AskedSteps.{IsCopied};
-ghost use Rattle.am_c_steps.specs.Structs.{key_in, value_in, struct_given, structs_given, struct_at, IsSound};
+ghost use Rattle.am_c_steps.specs.Structs.{key_in, value_in, struct_given, structs_given, struct_at, IsLayout};
 
 use crate::status::Status;
 use crate::text::{key_given, value_given};
 use am_record::{Key, MAX_KEY_LEN, MAX_VALUE_LEN, Records, Value};
-use am_runs::RecordSource;
+use am_store_runs::RecordSource;
 use std::alloc::Global;
 use std::marker::Model;
 
@@ -54,7 +54,7 @@ impl Layout {
 
     // Whether a struct has bytes, and in them a key and a value that are no longer than they may be.
     fn is_sound(&self) -> bool
-        ensures { IsTrue result ↔ IsSound self.now }
+        ensures { IsTrue result ↔ IsLayout self.now }
     {
         self.size > 0
             && self.key_length <= MAX_KEY_LEN
@@ -90,7 +90,7 @@ pub struct Structs<'a> {
 
 impl<'a> Model for Structs<'a> {
     ghost use Rattle.am_record.specs.Records.{Records, records_code};
-    ghost use Rattle.am_c_steps.specs.Structs.{AreWhole, records_given, structs_given};
+    ghost use Rattle.am_c_steps.specs.Structs.{AreWholeStructs, records_given, structs_given};
 
     ghost Value = { Records };
 
@@ -98,15 +98,15 @@ impl<'a> Model for Structs<'a> {
 
     ghost view = { λ s. records_given (structs_given s.layout s.bytes.now s.count) };
 
-    ghost invariant = { λ s. AreWhole s.layout s.bytes.now s.count };
+    ghost invariant = { λ s. AreWholeStructs s.layout s.bytes.now s.count };
 }
 
 impl<'a> Structs<'a> {
-    ghost use Rattle.am_c_steps.specs.Structs.{AreWhole};
+    ghost use Rattle.am_c_steps.specs.Structs.{AreWholeStructs};
 
     /// So many structs, where so many stand there whole, and each is sure to have a key and a value.
     pub fn whole(structs: &'a [u8], count: usize, layout: &Layout) -> Option<Structs<'a>>
-        ensures some { IsSome result ↔ AreWhole layout.now structs.entry.now count }
+        ensures some { IsSome result ↔ AreWholeStructs layout.now structs.entry.now count }
         ensures value { IfSome result (λ whole. structs_given layout.now structs.entry.now count ≡ Ok whole) }
     {
         if !layout.is_sound() || count > structs.len() / layout.size {

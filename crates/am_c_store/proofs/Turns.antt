@@ -10,12 +10,12 @@ use Rattle.am_record.specs.declared.step.Step.TheVariants.{Do}
 use Rattle.am_record.specs.declared.step.Reply.{Reply}
 use Rattle.am_record.specs.declared.step.Reply.TheVariants.{Done, Refused}
 use Rattle.am_record.specs.declared.step.Refusal.TheVariants.{NoMemory}
-use Rattle.am_runs.specs.Cuts.{AreRunsOf, records_of}
-use Rattle.am_sound.specs.StoreState.{StoreState}
+use Rattle.am_store_runs.specs.Cuts.{AreRunsOf, records_of}
+use Rattle.am_law_sound.specs.StoreState.{StoreState}
 use Rattle.am_c_steps.specs.declared.bringing.Bringing.{Bringing}
 use Rattle.am_c_steps.specs.Bringings.{brings}
 use Rattle.am_c_store.specs.StoreSteps.{Takes}
-use Rattle.am_c_store.specs.Loads.{GoesOn, LoadInTurn}
+use Rattle.am_c_store.specs.Loads.{LoadGoesOn, LoadInTurn}
 
 -- the runs in front of the rest were loaded, which have so many records: loading the rest is loading all
 pub record IsLoading (tx : ℕ) (bringing : Bringing) (all : List Records) (old : StoreState) (rest : List Records)
@@ -36,7 +36,7 @@ starts tx bringing all rest p is = record {
 
 -- the reply ends the load
 refusal : (run : Records) (Others : StoreState → ℕ → Reply → StoreState → Type 0) (first : Reply) (p : StoreState) →
-    first ≢ Done → GoesOn run Others first p 0 first p
+    first ≢ Done → LoadGoesOn run Others first p 0 first p
 refusal run Others Done p not = absurd (not refl)
 refusal run Others first p not = (refl, refl, refl)
 

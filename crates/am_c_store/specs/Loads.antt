@@ -6,8 +6,8 @@ use Rattle.am_record.specs.declared.step.Step.TheVariants.{Do}
 use Rattle.am_record.specs.declared.step.Reply.{Reply}
 use Rattle.am_record.specs.declared.step.Reply.TheVariants.{Done, Refused}
 use Rattle.am_record.specs.declared.step.Refusal.TheVariants.{NoMemory}
-use Rattle.am_runs.specs.Cuts.{keys_of, IsCut, IsLeastTwice}
-use Rattle.am_sound.specs.StoreState.{StoreState}
+use Rattle.am_store_runs.specs.Cuts.{keys_of, IsCut, IsLeastTwice}
+use Rattle.am_law_sound.specs.StoreState.{StoreState}
 use Rattle.am_c_steps.specs.declared.bringing.Bringing.{Bringing}
 use Rattle.am_c_steps.specs.declared.load_answers.LoadFailure.{LoadFailure}
 use Rattle.am_c_steps.specs.declared.load_answers.LoadFailure.TheVariants.{Twice, Other}
@@ -22,28 +22,28 @@ abbrev pub given_by : {S : Type 0} → (S → Records) → Result S Status → R
 given_by records (Ok source) = Ok (records source)
 given_by records (Err why) = Err why
 
--- the runs of the pairs: of 65,536 each, and of no pairs one of none, which the store refuses
+-- the runs of the records: of 65,536 each, and of no records one of none, which the store refuses
 abbrev pub AreRuns : Records → List Records → Type 0
 AreRuns [] runs = runs ≡ [] ∷ []
-AreRuns (p ∷ pairs) runs = IsCut max_run_records (p ∷ pairs) runs
+AreRuns (p ∷ records) runs = IsCut max_run_records (p ∷ records) runs
 
 -- the runs of what was given, where nothing is wrong with it
 abbrev pub AreRunsGiven : Result Records Status → List Records → Type 0
-AreRunsGiven (Ok pairs) runs = AreRuns pairs runs
+AreRunsGiven (Ok records) runs = AreRuns records runs
 AreRunsGiven (Err why) runs = ⊥
 
 -- why none is loaded: what is wrong with what was given, or the least key that stands twice, or memory was refused
 abbrev pub IsFailure : Result Records Status → LoadFailure → Type 0
-IsFailure (Ok pairs) (Twice key) = IsLeastTwice (keys_of pairs) key
-IsFailure (Ok pairs) (Other why) = why ≡ is.NoMemory
+IsFailure (Ok records) (Twice key) = IsLeastTwice (keys_of records) key
+IsFailure (Ok records) (Other why) = why ≡ is.NoMemory
 IsFailure (Err wrong) (Twice key) = ⊥
 IsFailure (Err wrong) (Other why) = (why ≡ wrong) ⊎ (why ≡ is.NoMemory)
 
 -- after the reply to the first run: where it is Done the others are loaded too, and else nothing is done any more
-abbrev pub GoesOn : Records → (StoreState → ℕ → Reply → StoreState → Type 0) → Reply → StoreState → ℕ → Reply →
+abbrev pub LoadGoesOn : Records → (StoreState → ℕ → Reply → StoreState → Type 0) → Reply → StoreState → ℕ → Reply →
     StoreState → Type 0
-GoesOn run Others Done p loaded reply new = (more : ℕ) × (loaded ≡ length run + more) × Others p more reply new
-GoesOn run Others first p loaded reply new = (loaded ≡ 0) × (reply ≡ first) × (new ≡ p)
+LoadGoesOn run Others Done p loaded reply new = (more : ℕ) × (loaded ≡ length run + more) × Others p more reply new
+LoadGoesOn run Others first p loaded reply new = (loaded ≡ 0) × (reply ≡ first) × (new ≡ p)
 
 -- memory was refused for the next run, so that nothing is done any more
 abbrev pub HasNoRoom : StoreState → ℕ → Reply → StoreState → Type 0
@@ -54,7 +54,7 @@ abbrev pub TakesRun : ℕ → Bringing → Records → (StoreState → ℕ → R
     StoreState → Type 0
 TakesRun tx bringing run Others old loaded reply new =
     (first : Reply) × (p : StoreState) × Takes old (Do tx (brings bringing run)) first p
-    × GoesOn run Others first p loaded reply new
+    × LoadGoesOn run Others first p loaded reply new
 
 -- the runs are brought in in turn, until one is refused or has no room: `loaded` records stand in front of that one,
 -- and the reply is the last

@@ -6,9 +6,9 @@ use denote.RawPtr.{Ptr, block_ptr, null_ptr}
 use Rattle.std.specs.Box.Ownership.{box_owns}
 use Rattle.std.specs.declared.alloc.Global.{Global}
 use Rattle.std.specs.contracts.impls.GlobalAllocator.TheImpl.{ghosts}
-use Rattle.am_btree.specs.contracts.btree.BTree as tree
-use Rattle.am_btree.specs.contracts.btree.BTreePartIndex.TheImpl as tree_index
-use Rattle.am_core.specs.contracts.store.Store as store
+use Rattle.am_index_btree.specs.contracts.btree.BTree as tree
+use Rattle.am_index_btree.specs.contracts.btree.BTreePartIndex.TheImpl as tree_index
+use Rattle.am_store.specs.contracts.store.Store as store
 
 -- a store over a B-tree
 abbrev pub store_row : RattleType

@@ -1,7 +1,7 @@
 -- How large a store is, as C is told it.
 use Rattle.std.specs.Prelude.{◌≡◌, ℕ, length, Option, None, Some}
-use Rattle.am_parts.specs.Figures.{AreFigures}
-use Rattle.am_sound.specs.StoreState.{StoreState}
+use Rattle.am_index_parts.specs.Figures.{AreFigures}
+use Rattle.am_law_sound.specs.StoreState.{StoreState}
 use Rattle.am_c_store.specs.declared.figures.StoreFigures.{StoreFigures}
 use Rattle.am_c_steps.specs.declared.status.Status.TheVariants.{Fine, NoStore}
 use Rattle.am_c_steps.specs.Statuses.{code}

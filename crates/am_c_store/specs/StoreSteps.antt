@@ -5,8 +5,8 @@ use Rattle.am_record.specs.declared.step.Refusal.{Refusal}
 use Rattle.am_record.specs.declared.step.Step.{Step}
 use Rattle.am_record.specs.declared.step.Reply.{Reply}
 use Rattle.am_record.specs.declared.step.Reply.TheVariants.{Refused}
-use Rattle.am_sound.specs.StoreState.{StoreState, empty_state}
-use Rattle.am_core.specs.StoreSteps.{IsSoundAt, Extends, IsOwed}
+use Rattle.am_law_sound.specs.StoreState.{StoreState, empty_state}
+use Rattle.am_store.specs.StoreSteps.{IsSoundAt, Extends, IsOwed}
 use Rattle.am_c_steps.specs.declared.bringing.Bringing.{Bringing}
 use Rattle.am_c_steps.specs.declared.status.Status.{Status}
 use Rattle.am_c_steps.specs.declared.status.Status.TheVariants.{Fine, NoStore, IsOpen, NoMemory}
@@ -64,6 +64,6 @@ Closes (Some p) told = told ≡ code Fine
 Closes None told = told ≡ code NoStore
 
 -- the number is told, where there is a store
-abbrev pub Counts : (StoreState → ℕ) → Option StoreState → ℕ → ℕ → Type 0
-Counts count (Some p) told n = (told ≡ code Fine) × (n ≡ count p)
-Counts count None told n = (told ≡ code NoStore) × (n ≡ 0)
+abbrev pub IsCounted : (StoreState → ℕ) → Option StoreState → ℕ → ℕ → Type 0
+IsCounted count (Some p) told n = (told ≡ code Fine) × (n ≡ count p)
+IsCounted count None told n = (told ≡ code NoStore) × (n ≡ 0)

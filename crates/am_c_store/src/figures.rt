@@ -4,9 +4,9 @@ ghost use Rattle.std.specs.Prelude.{◌≡◌};
 ghost use Rattle.am_c_store.specs.StoreFigures.{AreFiguresOf, TellsFigures};
 
 use crate::handle::Handle;
-use am_btree::BTree;
 use am_c_steps::Status;
-use am_core::Store;
+use am_index_btree::BTree;
+use am_store::Store;
 use std::alloc::Global;
 
 /// `tvk_figures_t` of the header.

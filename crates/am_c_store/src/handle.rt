@@ -2,14 +2,14 @@
 //! pointer is proved by hand (`proofs/handle`), and no other code sees it.
 
 ghost use Rattle.std.specs.Prelude.{◌≡◌, Option as Maybe, None as Nothing, Some as Just};
-ghost use Rattle.am_sound.specs.StoreState.{StoreState};
-ghost use Rattle.am_core.specs.StoreContent.{state_code};
+ghost use Rattle.am_law_sound.specs.StoreState.{StoreState};
+ghost use Rattle.am_store.specs.StoreContent.{state_code};
 ghost use Rattle.std.specs.Coded.{coded_option};
 ghost use Rattle.am_c_store.specs.Ownership.{IsSame};
 
 use crate::loose::Loose;
-use am_btree::BTree;
-use am_core::Store;
+use am_index_btree::BTree;
+use am_store::Store;
 use std::alloc::Global;
 use std::marker::Model;
 use std::mem::replace;

@@ -1,21 +1,21 @@
 //! Records in any order: they are cut into runs, and these are loaded or put in turn.
 
 ghost use Rattle.std.specs.Prelude.{◌≡◌, ◌<◌, ◌^◌, [], Some, Ok, Err, length};
-ghost use Rattle.am_runs.specs.Cuts.{records_of};
+ghost use Rattle.am_store_runs.specs.Cuts.{records_of};
 ghost use Rattle.am_c_steps.specs.LoadAnswers.{without_key, load_key_told};
 ghost use Rattle.am_c_steps.specs.Statuses.{status, number};
 ghost use Rattle.am_c_store.specs.Loads.{given_by, LoadInTurn, Loads, TellsRuns};
 
 use crate::handle::Handle;
 use crate::store_steps::take_there;
-use am_btree::BTree;
 use am_c_steps::{
     Bringing, KeyText, LoadFailure, Status, failure_of, number_told, status_told, tell_load_key,
     without_key,
 };
-use am_core::Store;
+use am_index_btree::BTree;
 use am_record::{MAX_RUN_RECORDS, Records, Refusal, Reply, Step};
-use am_runs::{Cut, RecordSource, cut_source};
+use am_store::Store;
+use am_store_runs::{Cut, RecordSource, cut_source};
 use std::alloc::Global;
 
 /// Loads what was given, and tells how that ended.
@@ -132,7 +132,7 @@ fn load_in_turn<S: RecordSource>(
     let mut records = 0;
     loop {
         let run = match runs.next(alloc) {
-            Ok(Some(run)) => Records::new(run.into_pairs()),
+            Ok(Some(run)) => Records::new(run.into_records()),
             Ok(None) => return (records, Reply::Done),
             Err(_) => return (records, Reply::Refused(Refusal::NoMemory)),
         };

@@ -5,10 +5,10 @@ ghost use Rattle.am_c_steps.specs.Statuses.{status, number};
 ghost use Rattle.am_c_store.specs.StoreSteps.{Answers, Takes, Tells};
 
 use crate::handle::Handle;
-use am_btree::BTree;
 use am_c_steps::{Status, number_told, status_told};
-use am_core::Store;
+use am_index_btree::BTree;
 use am_record::{Reply, Step};
+use am_store::Store;
 use std::alloc::Global;
 
 /// Takes the step that is asked for, where the handle has a store.

@@ -17,8 +17,8 @@ use Rattle.am_index.proofs.Content.{all_found}
 use Rattle.am_index.specs.Runs.{live_entry, with_run, NothingAbove, RunLaws}
 
 module _ (run : ℕ) where
-  other_parts : (pairs : Records) (es : List Entry) (part : ℕ) (key : OrderedKey) → (part == run) ≡ false →
-      find (with_run run pairs es) part key ≡ find es part key
+  other_parts : (records : Records) (es : List Entry) (part : ℕ) (key : OrderedKey) → (part == run) ≡ false →
+      find (with_run run records es) part key ≡ find es part key
   other_parts [] es part key other = refl
   other_parts (r ∷ rs) es part key other =
       other_parts rs (insert_entry es (live_entry run r)) part key other
@@ -29,8 +29,8 @@ module _ (run : ℕ) where
   apart : (key key' : OrderedKey) → eq_by_cmp key_cmp key key' ≡ false → key' ≢ key
   apart key key' h same = true≢false (sym (ap is_eq (ap (key_cmp key) same ∙ key_cmp-itself key)) ∙ h)
 
-  other_keys : (pairs : Records) (es : List Entry) (key : OrderedKey) → is_key_of pairs key ≡ false →
-      find (with_run run pairs es) run key ≡ find es run key
+  other_keys : (records : Records) (es : List Entry) (key : OrderedKey) → is_key_of records key ≡ false →
+      find (with_run run records es) run key ≡ find es run key
   other_keys [] es key none = refl
   other_keys (r ∷ rs) es key none =
       let both = or_parts (eq_by_cmp key_cmp key r.0) (is_key_of rs key) none in
@@ -64,8 +64,8 @@ nothing_above es rising part none = record {
 
 pub run_laws : (es : List Entry) → IsRising es → RunLaws es
 run_laws es rising = record {
-  other_parts = λ run pairs part key other. other_parts run pairs es part key other;
-  other_keys = λ run pairs key none. other_keys run pairs es key none;
+  other_parts = λ run records part key other. other_parts run records es part key other;
+  other_keys = λ run records key none. other_keys run records es key none;
   none_above = λ part h part' key above. none_above h part' key above;
   nothing_above = λ part none. nothing_above es rising part none;
 }

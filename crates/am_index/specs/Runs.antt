@@ -27,10 +27,10 @@ pub record NothingAbove (part : ℕ) (es : List Entry) : Type 0 where
 -- where the records of a run stand, and where nothing stands
 pub record RunLaws (es : List Entry) : Type 0 where
   -- a run changes no other partition, and in its own no other key
-  pub other_parts : (run : ℕ) (pairs : Records) (part : ℕ) (key : OrderedKey) → (part == run) ≡ false →
-      find (with_run run pairs es) part key ≡ find es part key
-  pub other_keys : (run : ℕ) (pairs : Records) (key : OrderedKey) → is_key_of pairs key ≡ false →
-      find (with_run run pairs es) run key ≡ find es run key
+  pub other_parts : (run : ℕ) (records : Records) (part : ℕ) (key : OrderedKey) → (part == run) ≡ false →
+      find (with_run run records es) part key ≡ find es part key
+  pub other_keys : (run : ℕ) (records : Records) (key : OrderedKey) → is_key_of records key ≡ false →
+      find (with_run run records es) run key ≡ find es run key
   -- nothing stands above a partition exactly where nothing is found above it
   pub none_above : (part : ℕ) → NothingAbove part es → (part' : ℕ) (key : OrderedKey) → part < part' →
       find es part' key ≡ None

@@ -2,11 +2,13 @@
 #![tactic(auto)]
 
 mod batch;
+mod figures;
 mod hint;
 mod laws;
 mod part_index;
 
 pub use batch::Batch;
+pub use figures::Figures;
 pub use hint::{Hint, PLACES_AT_ONCE, STEPS};
 pub use laws::{
     content_follows, edits_follow, reads_follow, rows_follow, runs_follow, walks_follow,

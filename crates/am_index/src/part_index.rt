@@ -1,7 +1,7 @@
 //! What every index over partitions does.
 
-ghost use Rattle.std.specs.Prelude.{◌≡◌, ◌+◌, ◌<◌, ◌≤◌, ◌++◌, List, length, take, reverse, Some, None, IsSome, IfOk};
-ghost use Rattle.std.specs.Prelude.{OnOk, OnErr, is_some, is_none, vec_capacity, if◌then◌else◌};
+ghost use Rattle.std.specs.Prelude.{◌≡◌, ◌+◌, ◌<◌, ◌≤◌, ◌++◌, List, length, take, reverse, Some, None, IsSome};
+ghost use Rattle.std.specs.Prelude.{OnOk, OnErr, is_some, vec_capacity};
 ghost use Rattle.std.specs.List.{AllByRecursion};
 ghost use Rattle.am_record.specs.Limits.{max_value_bytes};
 ghost use Rattle.am_record.specs.declared.entry.Entry.{Entry};
@@ -128,18 +128,6 @@ pub trait PartIndex {
         ensures err { OnErr result (entries self.new ≡ entries self.old) }
         ensures rooms { KeepRoom (roomy self.old) (roomy self.new) (entries self.new) };
 
-    /// Adds an entry, unless its place is taken, and says whether it did.
-    ///
-    /// # Errors
-    /// NoMemory, where its place is free and memory was refused; the entries are as before.
-    fn insert_new(&mut self, entry: Entry) -> Result<bool, NoMemory>
-        ensures new { IfOk result (λ is_new. is_new ≡ is_none (find (entries self.old) entry.part entry.key)) }
-        ensures entries { IfOk result (λ is_new. entries self.new ≡
-            (if is_new then insert_entry (entries self.old) entry else entries self.old)) }
-        ensures err { OnErr result (entries self.new ≡ entries self.old) }
-        ensures free { OnErr result (find (entries self.old) entry.part entry.key ≡ None) }
-        ensures rooms { KeepRoom (roomy self.old) (roomy self.new) (entries self.new) };
-
     /// Adds the first of several entries that rise, as many as is at hand where nothing is in the way: their places are
     /// free, and no memory is taken. How many it added, perhaps none. Which number is at hand depends on how the index
     /// keeps them.
@@ -154,10 +142,10 @@ pub trait PartIndex {
     ///
     /// # Errors
     /// NoMemory, where memory was refused; the entries are as before.
-    fn append_run(&mut self, part: u32, pairs: &[(Key, Value)]) -> Result<(), NoMemory>
+    fn append_run(&mut self, part: u32, records: &[(Key, Value)]) -> Result<(), NoMemory>
         requires above { AllByRecursion (λ e. e.part < part) (entries self.old) }
-        requires rising { IsRising (run_entries part pairs.now) }
-        ensures ok { OnOk result (entries self.new ≡ entries self.old ++ run_entries part pairs.now) }
+        requires rising { IsRising (run_entries part records.now) }
+        ensures ok { OnOk result (entries self.new ≡ entries self.old ++ run_entries part records.now) }
         ensures err { OnErr result (entries self.new ≡ entries self.old) }
         ensures rooms { KeepRoom (roomy self.old) (roomy self.new) (entries self.new) };
 

@@ -5,11 +5,11 @@ use Rattle.std.specs.Prelude.{slice_get, if◌then◌else◌, Option, None, is_s
 use Rattle.std.proofs.lemmas.List.{map-append}
 use Rattle.am_record.specs.declared.step.Step.{Step}
 use Rattle.am_record.specs.declared.step.Reply.{Reply}
-use Rattle.am_ties.specs.declared.receipt.Receipt.{Receipt}
-use Rattle.am_traced_steps.specs.Changes.{is_stored, change}
-use Rattle.am_engine.specs.Traces.{stored_at}
-use Rattle.am_engine.specs.declared.change.Stored.{Stored}
-use Rattle.am_ties.specs.Receipts.{receipt}
+use Rattle.am_latch_ties.specs.declared.receipt.Receipt.{Receipt}
+use Rattle.am_latch_engine.specs.Changes.{is_stored, change}
+use Rattle.am_latch_engine.specs.Traces.{stored_at}
+use Rattle.am_latch_engine.specs.declared.change.Stored.{Stored}
+use Rattle.am_latch_ties.specs.Receipts.{receipt}
 use Rattle.am_latch.specs.Receipts.{SeatState, seat_state, GetsReceipt, HasReceiptOf, commit_in, committed_by}
 use Rattle.am_latch.specs.Receipts.{last_commit_of, positions_of, AreBehind}
 

@@ -12,19 +12,19 @@ use Rattle.atomic_table.proofs.owned.Table.TheSendSync as table
 use Rattle.atomic_table.proofs.shared.Seat.TheSendSync as seat
 use Rattle.am_record.proofs.step.Step.TheSendSync as step
 use Rattle.am_record.proofs.step.Reply.TheSendSync as reply
-use Rattle.am_btree.proofs.Crosses.{tree_send}
-use Rattle.am_core.proofs.store.Store.TheSendSync as store
+use Rattle.am_index_btree.proofs.Crosses.{tree_send}
+use Rattle.am_store.proofs.store.Store.TheSendSync as store
 use Rattle.am_latch.specs.declared.latch_name.LatchName as latch_name
-use Rattle.am_ties.specs.contracts.views.View as View
-use Rattle.am_engine.specs.contracts.engine.Engine as Engine
-use Rattle.am_engine.specs.contracts.hand_outs.Handed as Handed
+use Rattle.am_latch_ties.specs.contracts.views.View as View
+use Rattle.am_latch_engine.specs.contracts.engine.Engine as Engine
+use Rattle.am_latch_engine.specs.contracts.hand_outs.Handed as Handed
 use Rattle.am_latch.specs.contracts.state.LatchState as LatchState
 use Rattle.am_latch.specs.contracts.state.LatchState.TheInside as HeldInside
 use Rattle.am_latch.specs.contracts.latch.Latch as Latch
-use Rattle.am_ties.specs.contracts.taker_tie.TakenView as TakenView
+use Rattle.am_latch_ties.specs.contracts.taker_tie.TakenView as TakenView
 use Rattle.am_latch.specs.contracts.taker.Taker as Taker
 use Rattle.am_latch.proofs.taker.Taker.TheSendSync as taker
-use Rattle.am_ties.proofs.call_id.CallId.TheSendSync as call_id
+use Rattle.am_latch_ties.proofs.call_id.CallId.TheSendSync as call_id
 
 handed_send : IsSend Handed.the_row
 handed_send = search (crosses, sendable, table.the_field_send, seat.the_send, heap.the_send) depth 60

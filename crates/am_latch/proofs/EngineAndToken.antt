@@ -3,11 +3,11 @@ use Rattle.std.proofs.Common.{◌≡◌, ℕ, suc, ◌+◌, ◌<◌, ◌==◌, L
 use Rattle.std.proofs.Common.{if◌then◌else◌, refl, sym, ap, ◌∙◌, subst, arith, append-nil, append_assoc}
 use Rattle.am_record.specs.declared.step.Step.{Step}
 use Rattle.am_record.specs.declared.step.Reply.{Reply}
-use Rattle.am_ties.specs.declared.call_id.CallId.{CallId}
-use Rattle.am_traced_steps.specs.Changes.{is_stored}
-use Rattle.am_ties.specs.CallLogs.{CallLog, log_with}
-use Rattle.am_engine.specs.Traces.{StoresCall, AreMadeBelow}
-use Rattle.am_ties.specs.Receipts.{receipt, receipts_from}
+use Rattle.am_latch_ties.specs.declared.call_id.CallId.{CallId}
+use Rattle.am_latch_engine.specs.Changes.{is_stored}
+use Rattle.am_latch_ties.specs.CallLogs.{CallLog, log_with}
+use Rattle.am_latch_engine.specs.Traces.{StoresCall, AreMadeBelow}
+use Rattle.am_latch_ties.specs.Receipts.{receipt, receipts_from}
 use Rattle.am_latch.specs.Ties.{calls_of, AreNumbered}
 
 pub grown : (e e' : CallLog) (m : CallId) (st : Step) (r : Reply) → is_stored r ≡ true → StoresCall e m st r e' →

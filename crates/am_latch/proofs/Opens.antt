@@ -5,13 +5,13 @@ use Rattle.std.specs.Prelude.{slice_get}
 use Rattle.std.proofs.lemmas.Option.{slice_get_within}
 use Rattle.am_record.specs.declared.step.Step.{Step}
 use Rattle.am_record.specs.declared.step.Reply.{Reply}
-use Rattle.am_traced_steps.specs.Changes.{active_in_trace}
-use Rattle.am_ties.specs.declared.receipt.Receipt.{Receipt}
-use Rattle.am_ties.specs.declared.call_id.CallId.{CallId}
-use Rattle.am_ties.specs.CallLogs.{CallLog}
-use Rattle.am_engine.specs.Traces.{AreMadeBelow}
-use Rattle.am_ties.specs.Receipts.{receipt, receipts_from}
-use Rattle.am_latch.specs.Receipts.{SeatState, AreAll, HaveReceiptsIn}
+use Rattle.am_latch_engine.specs.Changes.{active_in_trace}
+use Rattle.am_latch_ties.specs.declared.receipt.Receipt.{Receipt}
+use Rattle.am_latch_ties.specs.declared.call_id.CallId.{CallId}
+use Rattle.am_latch_ties.specs.CallLogs.{CallLog}
+use Rattle.am_latch_engine.specs.Traces.{AreMadeBelow}
+use Rattle.am_latch_ties.specs.Receipts.{receipt, receipts_from}
+use Rattle.am_latch.specs.Receipts.{SeatState, AreAllSeats, HaveReceiptsIn}
 use Rattle.am_latch.specs.Ties.{open_of, open_in, IsTied, SeatsAreTied}
 use Rattle.am_latch.proofs.SeatReceipts.{there_is}
 
@@ -31,7 +31,7 @@ open_below n k t e below is le =
     let nothing : open_in e k ≡ None = ap open_of (none_above n k 0 0 e.trace e.calls le below) in
     let same : None ≡ Some t = sym nothing ∙ is in cc
 
-pub open_is : (e : CallLog) (n : ℕ) (seats : List SeatState) → AreMadeBelow n e.calls → AreAll n seats →
+pub open_is : (e : CallLog) (n : ℕ) (seats : List SeatState) → AreMadeBelow n e.calls → AreAllSeats n seats →
     HaveReceiptsIn e seats (length seats) → IsTied e → SeatsAreTied seats (active_in_trace e.trace)
 open_is e n seats below all known tied = record {
   active = λ i t s at is. tied.active s.number t (sym (receipts i s at) ∙ is);

@@ -4,9 +4,9 @@ use Rattle.am_record.specs.Sessions.{IsAllowed}
 use Rattle.am_record.specs.declared.step.Step.{Step}
 use Rattle.am_record.specs.declared.step.Step.TheVariants.{Begin, Do, Commit, Abort, Merge, Clean}
 use Rattle.am_record.specs.declared.step.Reply.{Reply}
-use Rattle.am_traced_steps.specs.declared.change.Change.{Change}
-use Rattle.am_traced_steps.specs.Changes.{change, open_after}
-use Rattle.am_traced_steps.proofs.Replies.{did_nothing}
+use Rattle.am_latch_engine.specs.declared.change.Change.{Change}
+use Rattle.am_latch_engine.specs.Changes.{change, open_after}
+use Rattle.am_latch_engine.proofs.Replies.{did_nothing}
 use Rattle.am_latch.specs.Ties.{EndsTx, receipts_kept, receipts_needed, receipts_with, receipt_room}
 
 pub enough : (n : ℕ) → n ≤ receipt_room n

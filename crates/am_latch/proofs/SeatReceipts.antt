@@ -8,12 +8,12 @@ use Rattle.std.proofs.lemmas.Option.{slice_get_within, slice_get-get_or}
 use Rattle.std.proofs.lemmas.List.{set-get_or}
 use Rattle.am_record.specs.declared.step.Step.{Step}
 use Rattle.am_record.specs.declared.step.Reply.{Reply}
-use Rattle.am_ties.specs.declared.receipt.Receipt.{Receipt}
-use Rattle.am_ties.specs.declared.call_id.CallId.{CallId}
-use Rattle.am_ties.specs.CallLogs.{CallLog}
-use Rattle.am_engine.specs.Traces.{AreMadeBelow}
-use Rattle.am_ties.specs.Receipts.{receipt, receipts_from, receipts_of}
-use Rattle.am_latch.specs.Receipts.{SeatState, AreReceiptsOf, AreAll}
+use Rattle.am_latch_ties.specs.declared.receipt.Receipt.{Receipt}
+use Rattle.am_latch_ties.specs.declared.call_id.CallId.{CallId}
+use Rattle.am_latch_ties.specs.CallLogs.{CallLog}
+use Rattle.am_latch_engine.specs.Traces.{AreMadeBelow}
+use Rattle.am_latch_ties.specs.Receipts.{receipt, receipts_from, receipts_of}
+use Rattle.am_latch.specs.Receipts.{SeatState, AreReceiptsOf, AreAllSeats}
 use Rattle.am_latch.specs.Receipts.{HaveReceiptsIn}
 
 -- the receipt r is at j, and q is its position
@@ -155,7 +155,7 @@ audited_more e seats start i x y began known lt stays right =
     (same ∙ began, subst (λ (l : List SeatState). HaveReceiptsIn e l (i + 1)) (sym same) more)
 
 pub kept : (e : CallLog) (n : ℕ) (seats : List SeatState) → length e.calls ≡ length e.trace → AreMadeBelow n e.calls →
-    AreAll n seats → HaveReceiptsIn e seats (length seats) → AreReceiptsOf seats e.trace
+    AreAllSeats n seats → HaveReceiptsIn e seats (length seats) → AreReceiptsOf seats e.trace
 kept e n seats even below all known = record {
   stand = λ i k s r at at'. let f = at_receipt i k s r at at' in record {
     seat = f.seat;

@@ -8,18 +8,18 @@ use Rattle.am_record.specs.Sessions.{IsAllowed}
 use Rattle.am_record.specs.declared.step.Step.{Step}
 use Rattle.am_record.specs.declared.step.Step.TheVariants.{Begin, Do, Commit, Abort, Merge, Clean}
 use Rattle.am_record.specs.declared.step.Reply.{Reply}
-use Rattle.am_traced_steps.specs.declared.change.Change.{Change}
-use Rattle.am_traced_steps.specs.declared.change.Change.TheVariants.{Begins, Ends, Nothing}
-use Rattle.am_traced_steps.specs.Changes.{change, end_of, numbers_with, active_in_trace, has, open_after, MayFollow}
-use Rattle.am_ties.specs.declared.receipt.Receipt.{Receipt}
-use Rattle.am_ties.specs.declared.call_id.CallId.{CallId}
-use Rattle.am_ties.specs.CallLogs.{CallLog, log_with}
-use Rattle.am_ties.specs.Receipts.{receipt, receipts_of}
+use Rattle.am_latch_engine.specs.declared.change.Change.{Change}
+use Rattle.am_latch_engine.specs.declared.change.Change.TheVariants.{Begins, Ends, Nothing}
+use Rattle.am_latch_engine.specs.Changes.{change, end_of, numbers_with, active_in_trace, has, open_after, MayFollow}
+use Rattle.am_latch_ties.specs.declared.receipt.Receipt.{Receipt}
+use Rattle.am_latch_ties.specs.declared.call_id.CallId.{CallId}
+use Rattle.am_latch_ties.specs.CallLogs.{CallLog, log_with}
+use Rattle.am_latch_ties.specs.Receipts.{receipt, receipts_of}
 use Rattle.am_latch.specs.Ties.{open_from, open_of, AreTied, open_in, IsTied}
-use Rattle.am_ties.proofs.Places.{mine_more, others_same}
+use Rattle.am_latch_ties.proofs.Places.{mine_more, others_same}
 use Rattle.am_record.proofs.ByNumber.{has_number-without_number, has_number-without_other}
-use Rattle.am_traced_steps.proofs.Replies.{begins_begin, ends_end, did_nothing}
-use Rattle.am_traced_steps.proofs.StoreAnswers.{active_from-snoc}
+use Rattle.am_latch_engine.proofs.Replies.{begins_begin, ends_end, did_nothing}
+use Rattle.am_latch_engine.proofs.StoreAnswers.{active_from-snoc}
 
 or_cases : {P : Type 0} (a b : Bool) → (a || b) ≡ true → (a ≡ true → P) → (b ≡ true → P) → P
 or_cases true b e l r = l refl

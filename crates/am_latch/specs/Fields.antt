@@ -8,13 +8,13 @@ use Rattle.am_latch.specs.declared.seat.Seat.TheInside.{Inside as SeatFields}
 use Rattle.am_latch.specs.declared.state.LatchState.TheInside.{Inside as LatchStateFields}
 use Rattle.am_latch.specs.declared.taker.Taker.TheInside.{Inside as TakerFields}
 use Rattle.am_latch.specs.Receipts.{moved_in, last_commit_of, positions_of, AreBehind, most_let_go}
-use Rattle.am_latch.specs.Ties.{open_of, HasRoom, receipts_kept, receipt_room, AreNumbered, IsTied}
+use Rattle.am_latch.specs.Ties.{open_of, HasRoomForReceipt, receipts_kept, receipt_room, AreNumbered, IsTied}
 use Rattle.am_latch.specs.Tables.{LatchTables}
-use Rattle.am_ties.specs.declared.taker_tie.TakenView.TheVariants.{Handed, Whole}
-use Rattle.am_ties.specs.HandOutRule.{IsTakerView}
-use Rattle.am_engine.specs.Traces.{AreMadeBelow, log_of}
-use Rattle.am_ties.specs.declared.views.View.TheVariants.{Minting, Log}
-use Rattle.am_ties.specs.Views.{seat_in, IsSeatView}
+use Rattle.am_latch_ties.specs.declared.taker_tie.TakenView.TheVariants.{Handed, Whole}
+use Rattle.am_latch_ties.specs.HandOutRule.{IsTakerView}
+use Rattle.am_latch_engine.specs.Traces.{AreMadeBelow, log_of}
+use Rattle.am_latch_ties.specs.declared.views.View.TheVariants.{Minting, Log}
+use Rattle.am_latch_ties.specs.Views.{seat_in, IsSeatView}
 
 -- The store makes so many runs at most. One token under the latch knows the trace, another what was handed out of it.
 -- One of the seats made each call, which has its number among the seat's, and what is open in these is active
@@ -41,7 +41,7 @@ pub record IsSeat {L : Type 0} (table : TableId) (seats : ℕ) (s : SeatFields L
   pub count : s.let_go + vec_len s.positions ≡ length (seat_in s.token.me.0).receipts
   pub open_tx : s.open_now ≡ open_of (seat_in s.token.me.0).receipts
   pub last : s.last_commit ≡ last_commit_of (seat_in s.token.me.0).receipts
-  pub room : HasRoom s.open_now (vec_len s.positions) (vec_capacity s.positions)
+  pub room : HasRoomForReceipt s.open_now (vec_len s.positions) (vec_capacity s.positions)
   pub got : receipt_room (vec_len s.positions + receipts_kept s.open_now) ≤ vec_capacity s.positions
   pub moved : s.moved ≡ moved_in (seat_in s.token.me.0).receipts
   pub few : s.moved ≤ max_limit * length (seat_in s.token.me.0).receipts

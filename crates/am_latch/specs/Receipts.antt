@@ -5,10 +5,10 @@ use Rattle.std.specs.Prelude.{Option, Some, None, MatchBool}
 use Rattle.am_record.specs.declared.step.Step.{Step}
 use Rattle.am_record.specs.declared.step.Reply.{Reply}
 use Rattle.am_record.specs.declared.step.Reply.TheVariants.{Committed}
-use Rattle.am_ties.specs.declared.receipt.Receipt.{Receipt}
-use Rattle.am_ties.specs.CallLogs.{CallLog}
-use Rattle.am_ties.specs.Receipts.{receipt, receipt_code, receipts_of}
-use Rattle.am_traced_steps.specs.Changes.{is_stored, moves_in}
+use Rattle.am_latch_ties.specs.declared.receipt.Receipt.{Receipt}
+use Rattle.am_latch_ties.specs.CallLogs.{CallLog}
+use Rattle.am_latch_ties.specs.Receipts.{receipt, receipt_code, receipts_of}
+use Rattle.am_latch_engine.specs.Changes.{is_stored, moves_in}
 
 -- what contracts see of a seat: all its receipts, and how many of them, the oldest, it let go
 pub record SeatState : Type 0 where
@@ -98,8 +98,8 @@ abbrev pub NumberedBelow : List SeatState → ℕ → Type 0
 NumberedBelow seats n = (i : ℕ) (s : SeatState) → i < n → slice_get seats i ≡ Some s → s.number ≡ i
 
 -- the n seats of a latch, in their order
-abbrev pub AreAll : ℕ → List SeatState → Type 0
-AreAll n seats = (length seats ≡ n) × NumberedBelow seats n
+abbrev pub AreAllSeats : ℕ → List SeatState → Type 0
+AreAllSeats n seats = (length seats ≡ n) × NumberedBelow seats n
 
 -- the receipts of the seats below n are those of their calls
 abbrev pub HaveReceiptsIn : CallLog → List SeatState → ℕ → Type 0

@@ -5,13 +5,13 @@ use Rattle.std.specs.Int.{next_multiple_of}
 use Rattle.am_record.specs.declared.step.Step.{Step}
 use Rattle.am_record.specs.declared.step.Step.TheVariants.{Begin, Do, Commit, Abort, Merge, Clean}
 use Rattle.am_record.specs.declared.step.Reply.{Reply}
-use Rattle.am_traced_steps.specs.declared.change.Change.TheVariants.{Ends}
-use Rattle.am_traced_steps.specs.Changes.{change, end_of, open_after, has, active_in_trace}
-use Rattle.am_ties.specs.declared.receipt.Receipt.{Receipt}
-use Rattle.am_ties.specs.declared.call_id.CallId.{CallId}
-use Rattle.am_ties.specs.CallLogs.{CallLog}
-use Rattle.am_engine.specs.Traces.{EngineState, log_of, AreMadeBelow}
-use Rattle.am_ties.specs.Receipts.{receipts_of}
+use Rattle.am_latch_engine.specs.declared.change.Change.TheVariants.{Ends}
+use Rattle.am_latch_engine.specs.Changes.{change, end_of, open_after, has, active_in_trace}
+use Rattle.am_latch_ties.specs.declared.receipt.Receipt.{Receipt}
+use Rattle.am_latch_ties.specs.declared.call_id.CallId.{CallId}
+use Rattle.am_latch_ties.specs.CallLogs.{CallLog}
+use Rattle.am_latch_engine.specs.Traces.{EngineState, log_of, AreMadeBelow}
+use Rattle.am_latch_ties.specs.Receipts.{receipts_of}
 use Rattle.am_latch.specs.Receipts.{SeatState}
 
 abbrev pub open_from : Option ℕ → List Receipt → Option ℕ
@@ -88,6 +88,6 @@ abbrev pub receipt_room : ℕ → ℕ
 receipt_room n = next_multiple_of n 64
 
 -- so many receipts, with room for one more while a transaction is open
-abbrev pub HasRoom : Option ℕ → ℕ → ℕ → Type 0
-HasRoom None len cap = len ≤ 1000001
-HasRoom (Some t) len cap = (len < cap) × (len ≤ 1000000)
+abbrev pub HasRoomForReceipt : Option ℕ → ℕ → ℕ → Type 0
+HasRoomForReceipt None len cap = len ≤ 1000001
+HasRoomForReceipt (Some t) len cap = (len < cap) × (len ≤ 1000000)

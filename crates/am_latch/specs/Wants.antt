@@ -1,9 +1,9 @@
 -- When a call at a seat may be refused for want of memory.
 use Rattle.std.specs.Prelude.{◌≡◌, ◌⊎◌, ◌<◌, ℕ, ◌+◌, true}
 use Rattle.am_record.specs.declared.step.Step.{Step}
-use Rattle.am_sound.specs.Right.{IsSoundStore}
-use Rattle.am_engine.specs.Traces.{EngineState}
-use Rattle.am_engine.specs.Wants.{MayWantMemory, takes_lists}
+use Rattle.am_law_sound.specs.Right.{IsSoundStore}
+use Rattle.am_latch_engine.specs.Traces.{EngineState}
+use Rattle.am_latch_engine.specs.Wants.{MayWantMemory, takes_lists}
 use Rattle.am_latch.specs.Receipts.{SeatState, held_by}
 use Rattle.am_latch.specs.Ties.{open_of, receipts_kept, receipts_needed, receipt_room, IsEngineOf, HasReceiptsIn}
 

@@ -1,23 +1,25 @@
 //! The latch, round the engine.
 ghost use Rattle.std.specs.Prelude.{◌≡◌, ◌↔◌, ◌⊎◌, ◌<◌, ◌≤◌, [], ◌++◌, IfOk, IfErr, OnErr, IfSome};
 ghost use Rattle.am_record.specs.Limits.{last_run};
-ghost use Rattle.am_sound.specs.Right.{IsSoundStore};
-ghost use Rattle.am_ties.specs.declared.views.View.TheVariants.{Minting, Log};
-ghost use Rattle.am_ties.specs.CallLogs.{empty_log};
+ghost use Rattle.am_law_sound.specs.Right.{IsSoundStore};
+ghost use Rattle.am_latch_ties.specs.declared.views.View.TheVariants.{Minting, Log};
+ghost use Rattle.am_latch_ties.specs.CallLogs.{empty_log};
 ghost use Rattle.am_latch.specs.Receipts.{numbered};
 ghost use Rattle.am_latch.specs.Faults.{IsBadSeats};
 ghost use Rattle.am_latch.specs.Ties.{IsEngineOf, HasReceiptsIn};
-ghost use Rattle.am_engine.specs.Sizes.{AreFiguresAt};
-ghost use Rattle.am_engine.specs.Traces.{EngineState, IsNextOf};
+ghost use Rattle.am_latch_engine.specs.Sizes.{AreFiguresAt};
+ghost use Rattle.am_latch_engine.specs.Traces.{EngineState, IsNextOf};
 
 use crate::latch_name::LatchName;
 use crate::locked::Locked;
 use crate::seat::Seat;
 use crate::state::LatchState;
 use crate::taker::Taker;
-use am_engine::{Engine, Piece};
+use am_latch_engine::{Engine, Piece};
+use am_latch_ties::{
+    TakenTable, TakenToken, Token, ViewTable, end_minting, mint_seat, split_taker,
+};
 use am_record::{HashKey, NoMemory};
-use am_ties::{TakenTable, TakenToken, Token, ViewTable, end_minting, mint_seat, split_taker};
 use std::alloc::Global;
 use std::marker::{Model, PhantomData};
 use std::sync::{Mutex, MutexGuard, Wait};

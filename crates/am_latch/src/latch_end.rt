@@ -1,22 +1,22 @@
 //! The end of a latch.
 ghost use Rattle.std.specs.Prelude.{◌≡◌, ◌<◌, ◌++◌, ◌↔◌, [], IfOk, IfErr, MatchResult, length, true};
-ghost use Rattle.am_core.specs.StoreSteps.{IsSoundAt};
-ghost use Rattle.am_sound.specs.Right.{IsSoundStore};
-ghost use Rattle.am_latch.specs.Receipts.{AreReceiptsOf, AreAll, NumberedBelow, HaveReceiptsIn};
+ghost use Rattle.am_store.specs.StoreSteps.{IsSoundAt};
+ghost use Rattle.am_law_sound.specs.Right.{IsSoundStore};
+ghost use Rattle.am_latch.specs.Receipts.{AreReceiptsOf, AreAllSeats, NumberedBelow, HaveReceiptsIn};
 ghost use Rattle.am_latch.specs.Ties.{SeatsAreTied};
-ghost use Rattle.am_traced_steps.specs.Changes.{active_in_trace, numbers_active};
-ghost use Rattle.am_serial.specs.Legal.{IsLegal};
-ghost use Rattle.am_ties.specs.Views.{IsLogView, log_in};
+ghost use Rattle.am_latch_engine.specs.Changes.{active_in_trace, numbers_active};
+ghost use Rattle.am_law_serial.specs.Legal.{IsLegal};
+ghost use Rattle.am_latch_ties.specs.Views.{IsLogView, log_in};
 
 use crate::latch::Latch;
 use crate::latch_name::LatchName;
 use crate::seat::Seat;
 use crate::state::LatchState;
 use crate::taker::Taker;
-use am_btree::BTree;
-use am_core::Store;
+use am_index_btree::BTree;
+use am_latch_ties::{Token, ViewTable, hand_over};
 use am_record::{Reply, Step};
-use am_ties::{Token, ViewTable, hand_over};
+use am_store::Store;
 
 /// What a latch leaves: what it keeps of the trace of its calls, the store where the whole trace leaves it, and the
 /// seats with their receipts. The trace is what was handed out and then what is kept.
@@ -75,7 +75,7 @@ pub fn close<L: LatchName>(
 ) -> Result<Closed<L>, Missing<L>>
     ensures seats { MatchResult result (λ c. c.seats.items ≡ seats.items) (λ m. m.seats.items ≡ seats.items) }
     ensures taker { IfErr result (λ m. m.taker ≡ taker) }
-    ensures all { MatchResult result (λ _. AreAll L.seats seats.items) (λ _. AreAll L.seats seats.items → ⊥) }
+    ensures all { MatchResult result (λ _. AreAllSeats L.seats seats.items) (λ _. AreAllSeats L.seats seats.items → ⊥) }
     ensures kept { IfOk result (λ c. AreReceiptsOf c.seats.items (taker ++ c.trace.items)) }
     ensures open_txs { IfOk result (λ c. SeatsAreTied c.seats.items (numbers_active c.store)) }
     ensures active { IfOk result (λ c. numbers_active c.store ≡ active_in_trace (taker ++ c.trace.items)) }
@@ -84,7 +84,7 @@ pub fn close<L: LatchName>(
     ensures most { IfOk result (λ c. c.store.most_runs ≡ L.most_runs) }
     ensures legal { IfOk result (λ c. IsLegal L.most_runs (taker ++ c.trace.items)) }
 {
-    am_serial::sound_traces_are_legal();
+    am_law_serial::sound_traces_are_legal();
     let Latch {
         state,
         table,

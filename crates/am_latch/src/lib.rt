@@ -1,6 +1,6 @@
 //! A store under one latch, whose calls stand in one trace, and seats that keep a receipt for each call.
 //!
-//! - [`Blank`], [`Latch`]: an [`am_engine::Engine`] under a lock, and its seats.
+//! - [`Blank`], [`Latch`]: an [`am_latch_engine::Engine`] under a lock, and its seats.
 //! - [`Seat`]: calls through the latch, with a receipt for each; [`CommitReceipt`] says that a commit stands.
 //! - [`Locked`]: the latch, held from one call to the next.
 //! - [`Taker`]: who takes what the latch hands out of its trace.

@@ -4,7 +4,7 @@ ghost use Rattle.std.specs.Prelude.{◌≡◌, ◌<◌};
 
 use crate::latch_name::LatchName;
 use crate::state::LatchState;
-use am_ties::ViewTable;
+use am_latch_ties::ViewTable;
 use std::sync::MutexGuard;
 
 /// A latch that one thread took, and has to itself until this is dropped.

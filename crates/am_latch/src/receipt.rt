@@ -1,7 +1,7 @@
 //! What a seat keeps of a call.
 
 ghost use Rattle.std.specs.Prelude.{◌≡◌};
-ghost use Rattle.am_traced_steps.specs.Changes.{moves_in};
+ghost use Rattle.am_latch_engine.specs.Changes.{moves_in};
 ghost use Rattle.am_latch.specs.Receipts.{committed_by};
 
 use am_record::Reply;

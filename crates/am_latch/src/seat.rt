@@ -4,25 +4,24 @@ ghost use Rattle.std.specs.Prelude.{vec_len, vec_capacity, IfSome, IfNone};
 ghost use Rattle.am_record.specs.Sessions.{IsAllowed};
 ghost use Rattle.am_record.specs.declared.step.Reply.TheVariants.{Refused};
 ghost use Rattle.am_record.specs.declared.step.Refusal.TheVariants.{NoMemory, SeatFull};
-ghost use Rattle.am_traced_steps.specs.Changes.{end_of, is_stored, open_after, IsBoundedReply};
-ghost use Rattle.am_engine.specs.Copies.{IsCopyOf};
-ghost use Rattle.am_engine.specs.Wants.{takes_lists};
-ghost use Rattle.am_ties.specs.Receipts.{receipts_of};
+ghost use Rattle.am_latch_engine.specs.Changes.{end_of, is_stored, open_after, IsBoundedReply};
+ghost use Rattle.am_latch_engine.specs.Copies.{IsCopyOf};
+ghost use Rattle.am_latch_engine.specs.Wants.{takes_lists};
+ghost use Rattle.am_latch_ties.specs.Receipts.{receipts_of};
 ghost use Rattle.am_latch.specs.Receipts.{SeatState, new_seat, HasReceiptOf, moved_in, last_commit_of};
 ghost use Rattle.am_latch.specs.Receipts.{held_by, positions_of, AreBehind};
 ghost use Rattle.am_latch.specs.Ties.{open_of, EndsTx, receipts_needed, receipt_room};
 ghost use Rattle.am_latch.specs.Wants.{CallMayWant};
-ghost use Rattle.am_ties.specs.declared.views.View.TheVariants.{Receipts};
-ghost use Rattle.am_ties.specs.Views.{new_seat_view, log_in, IsLogView};
+ghost use Rattle.am_latch_ties.specs.declared.views.View.TheVariants.{Receipts};
+ghost use Rattle.am_latch_ties.specs.Views.{new_seat_view, log_in, IsLogView};
 
 use crate::latch::Latch;
 use crate::latch_name::LatchName;
 use crate::locked::Locked;
 use crate::receipt::{CommitReceipt, commit_by, moved_by};
-use am_engine::{StepCopy, tx_to_end};
+use am_latch_engine::{Change, StepCopy, tx_to_end};
+use am_latch_ties::{CallId, Token, ViewTable, compare_receipts};
 use am_record::{Refusal, Reply, Step};
-use am_ties::{CallId, Token, ViewTable, compare_receipts};
-use am_traced_steps::Change;
 use std::alloc::Global;
 use std::marker::{Model, PhantomData};
 use std::sync::Wait;
@@ -73,7 +72,7 @@ impl<L: LatchName> Drop for Seat<L> {
 impl<L: LatchName> Model for Seat<L> {
     ghost use Rattle.am_latch.specs.Fields.{IsSeat};
     ghost use Rattle.am_latch.specs.Receipts.{seat_state_code, SeatState, seat_state};
-    ghost use Rattle.am_ties.specs.Views.{seat_in};
+    ghost use Rattle.am_latch_ties.specs.Views.{seat_in};
 
     ghost Value = { SeatState };
 

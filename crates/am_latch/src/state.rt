@@ -3,28 +3,28 @@ ghost use Rattle.std.specs.Prelude.{◌≡◌, ◌≢◌, ◌<◌, [], ◌++◌,
 ghost use Rattle.am_record.specs.Sessions.{IsAllowed};
 ghost use Rattle.am_record.specs.declared.step.Reply.TheVariants.{Refused};
 ghost use Rattle.am_record.specs.declared.step.Refusal.TheVariants.{NoMemory as OutOfMemory, SeatFull};
-ghost use Rattle.am_sound.specs.Right.{IsSoundStore};
-ghost use Rattle.am_traced_steps.specs.Changes.{is_stored, IsBoundedReply};
-ghost use Rattle.am_engine.specs.Copies.{IsCopyOf};
-ghost use Rattle.am_ties.specs.CallLogs.{empty_log};
-ghost use Rattle.am_engine.specs.Traces.{EngineState, log_of, StoresCall, stored_at, IsNextOf};
-ghost use Rattle.am_ties.specs.Receipts.{receipts_of};
-ghost use Rattle.am_engine.specs.Sizes.{AreFiguresAt};
-ghost use Rattle.am_engine.specs.Wants.{MayWantMemory};
+ghost use Rattle.am_law_sound.specs.Right.{IsSoundStore};
+ghost use Rattle.am_latch_engine.specs.Changes.{is_stored, IsBoundedReply};
+ghost use Rattle.am_latch_engine.specs.Copies.{IsCopyOf};
+ghost use Rattle.am_latch_ties.specs.CallLogs.{empty_log};
+ghost use Rattle.am_latch_engine.specs.Traces.{EngineState, log_of, StoresCall, stored_at, IsNextOf};
+ghost use Rattle.am_latch_ties.specs.Receipts.{receipts_of};
+ghost use Rattle.am_latch_engine.specs.Sizes.{AreFiguresAt};
+ghost use Rattle.am_latch_engine.specs.Wants.{MayWantMemory};
 ghost use Rattle.am_latch.specs.Ties.{open_of, EndsTx, IsEngineOf};
-ghost use Rattle.am_ties.specs.declared.taker_tie.TakenView.TheVariants.{Handed};
-ghost use Rattle.am_ties.specs.declared.views.View.TheVariants.{Log, Receipts};
-ghost use Rattle.am_ties.specs.Views.{seat_in, seat_with, IsSeatView};
+ghost use Rattle.am_latch_ties.specs.declared.taker_tie.TakenView.TheVariants.{Handed};
+ghost use Rattle.am_latch_ties.specs.declared.views.View.TheVariants.{Log, Receipts};
+ghost use Rattle.am_latch_ties.specs.Views.{seat_in, seat_with, IsSeatView};
 
 use crate::latch_name::LatchName;
 use crate::seat::Seat;
 use crate::taker::Taker;
-use am_engine::{Engine, Outcome, Piece, StepCopy};
-use am_record::{NoMemory, Reply, Step};
-use am_ties::{
+use am_latch_engine::{Engine, Outcome, Piece, StepCopy};
+use am_latch_ties::{
     CallId, TakenTable, TakenToken, TakenView, Token, View, ViewTable, append_call,
     compare_receipts, hand_over,
 };
+use am_record::{NoMemory, Reply, Step};
 use atomic_table::Badge;
 use std::marker::{Model, PhantomData};
 use std::mem;
@@ -39,7 +39,7 @@ pub(crate) struct LatchState<L: LatchName> {
 }
 
 impl<L: LatchName> Model for LatchState<L> {
-    ghost use Rattle.am_engine.specs.Traces.{engine_code, EngineState};
+    ghost use Rattle.am_latch_engine.specs.Traces.{engine_code, EngineState};
     ghost use Rattle.am_latch.specs.Fields.{IsLatchState};
 
     ghost Value = { EngineState };

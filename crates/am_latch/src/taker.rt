@@ -1,9 +1,9 @@
 //! Who takes what a latch hands out.
 ghost use Rattle.std.specs.Prelude.{◌≡◌, []};
-ghost use Rattle.am_ties.specs.declared.taker_tie.TakenView.TheVariants.{Taken};
+ghost use Rattle.am_latch_ties.specs.declared.taker_tie.TakenView.TheVariants.{Taken};
 
 use crate::latch_name::LatchName;
-use am_ties::TakenToken;
+use am_latch_ties::TakenToken;
 use std::marker::{Model, PhantomData};
 
 /// Takes what a latch hands out: each latch has one. Contracts see it as the events that it took, the oldest of the
@@ -15,10 +15,10 @@ pub struct Taker<L: LatchName> {
 }
 
 impl<L: LatchName> Model for Taker<L> {
-    ghost use Rattle.am_serial.specs.Trace.{Trace};
+    ghost use Rattle.am_law_serial.specs.Trace.{Trace};
     ghost use Rattle.am_latch.specs.Fields.{IsTaker};
-    ghost use Rattle.am_ties.specs.CallLogs.{events_code};
-    ghost use Rattle.am_ties.specs.HandOutRule.{taken_in};
+    ghost use Rattle.am_latch_ties.specs.CallLogs.{events_code};
+    ghost use Rattle.am_latch_ties.specs.HandOutRule.{taken_in};
 
     ghost Value = { Trace };
 

@@ -1,4 +1,4 @@
--- From the first key of a load's pairs to the last.
+-- From the first key of a load's records to the last.
 use Rattle.std.proofs.Common.{◌≡◌, ◌-◌, true, [], ◌∷◌, length, Some, refl, ap, ◌∙◌, sub-one}
 use Rattle.std.specs.Prelude.{slice_get}
 use Rattle.std.specs.Ordering.{is_le}

@@ -30,8 +30,8 @@ lock_of (Replace k v) = Some (record { mode = Exclusive; range = point k })
 lock_of (Set k v) = Some (record { mode = Exclusive; range = point k })
 lock_of (Delete k) = Some (record { mode = Exclusive; range = point k })
 lock_of (DeleteRange range max) = Some (record { mode = Exclusive; range = range })
-lock_of (Load pairs) = Some (record { mode = Exclusive; range = span pairs })
-lock_of (Put pairs) = Some (record { mode = Exclusive; range = span pairs })
+lock_of (Load records) = Some (record { mode = Exclusive; range = span records })
+lock_of (Put records) = Some (record { mode = Exclusive; range = span records })
 lock_of (TakeLock lock) = Some lock
 lock_of Mark = None
 lock_of Back = None

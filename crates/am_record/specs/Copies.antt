@@ -7,10 +7,10 @@ use Rattle.am_record.specs.declared.step.Step.TheVariants.{Do}
 use Rattle.am_record.specs.declared.step.Reply.{Reply}
 use Rattle.am_record.specs.declared.step.Reply.TheVariants.{Rows}
 
--- an operation with pairs is a load or a put
+-- an operation with records is a load or a put
 abbrev pub has_pairs : Op → Bool
-has_pairs (Load pairs) = true
-has_pairs (Put pairs) = true
+has_pairs (Load records) = true
+has_pairs (Put records) = true
 has_pairs op = false
 
 abbrev pub step_has_pairs : Step → Bool

@@ -77,16 +77,16 @@ map_answer (Replace k v) m = cond (contains_key m k) Done Missing
 map_answer (Set k v) m = Done
 map_answer (Delete k) m = cond (contains_key m k) Done Missing
 map_answer (DeleteRange range max) m = Deleted (length (scan_rows range max m))
-map_answer (Load pairs) m = exists_or_done (least_taken pairs m)
-map_answer (Put pairs) m = Done
+map_answer (Load records) m = exists_or_done (least_taken records m)
+map_answer (Put records) m = Done
 map_answer (Lock lock) m = Done
 map_answer Mark m = Done
 map_answer Back m = Done
 
 -- the records put in where none of their keys is taken
 abbrev pub load_where : Option OrderedKey → Records → PlainMap → PlainMap
-load_where None pairs m = insert_all pairs m
-load_where (Some key) pairs m = m
+load_where None records m = insert_all records m
+load_where (Some key) records m = m
 
 -- the map that it leaves. What Mark and Back do is in draft_after, below
 abbrev pub map_after : Op → PlainMap → PlainMap
@@ -98,8 +98,8 @@ map_after (Replace k v) m = cond (contains_key m k) (insert m k v) m
 map_after (Set k v) m = insert m k v
 map_after (Delete k) m = remove m k
 map_after (DeleteRange range max) m = remove_all (scan_rows range max m) m
-map_after (Load pairs) m = load_where (least_taken pairs m) pairs m
-map_after (Put pairs) m = insert_all pairs m
+map_after (Load records) m = load_where (least_taken records m) records m
+map_after (Put records) m = insert_all records m
 map_after (Lock lock) m = m
 map_after Mark m = m
 map_after Back m = m
@@ -160,6 +160,6 @@ is_rising (r ∷ rs) = is_sorted key_cmp (r ∷ rs)
 
 -- whether the operation is none that is refused for the order of its records
 abbrev pub is_orderly : Op → Bool
-is_orderly (Load pairs) = is_rising pairs
-is_orderly (Put pairs) = is_rising pairs
+is_orderly (Load records) = is_rising records
+is_orderly (Put records) = is_rising records
 is_orderly op = true

@@ -27,8 +27,8 @@ is_bounded _ = true
 
 -- whether the operation makes a run on some map
 abbrev pub may_make_run : Op → Bool
-may_make_run (Load pairs) = true
-may_make_run (Put pairs) = true
+may_make_run (Load records) = true
+may_make_run (Put records) = true
 may_make_run _ = false
 
 -- the refusal of an operation that is due before its lock is asked for: by whether the transaction is active, how many

@@ -34,14 +34,14 @@ impl Model for Records {
 }
 
 impl Records {
-    /// The pairs of a vector. Takes no memory.
+    /// The records of a vector. Takes no memory.
     pub fn new(items: Vec<(Key, Value)>) -> Records
         ensures { result ≡ items.items }
     {
         Records { items }
     }
 
-    /// The vector of the pairs. Takes no memory.
+    /// The vector of the records. Takes no memory.
     pub fn into_vec(self) -> Vec<(Key, Value)>
         ensures { result.items ≡ self }
     {
@@ -55,9 +55,9 @@ impl Records {
         &self.items
     }
 
-    /// The same pairs, in memory of their own.
+    /// The same records, in memory of their own.
     pub fn copy(&self, alloc: Global) -> Result<Records, NoMemory>
-        ensures { IfOk result (λ pairs. pairs ≡ self.now) }
+        ensures { IfOk result (λ records. records ≡ self.now) }
     {
         let mut items = Vec::with_capacity(alloc, self.items.len())?;
         items.extend_from_slice(&self.items)?;
@@ -66,13 +66,13 @@ impl Records {
 }
 
 /// Whether there is a pair and the keys rise strictly.
-pub fn is_rising(pairs: &[(Key, Value)]) -> bool
-    ensures { result ≡ is_rising pairs.now }
+pub fn is_rising(records: &[(Key, Value)]) -> bool
+    ensures { result ≡ is_rising records.now }
 {
-    if pairs.is_empty() {
+    if records.is_empty() {
         return false;
     }
-    pairs.is_sorted_by(|a, b| a.0 < b.0)
+    records.is_sorted_by(|a, b| a.0 < b.0)
 }
 
 impl PartialEq for Records {

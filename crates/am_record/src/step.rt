@@ -106,7 +106,7 @@ pub enum Refusal {
     TooManyOps,
     /// As many runs were made as may be, or 65,535 have entries.
     TooManyRuns,
-    /// The pairs of a load or a put don't rise strictly by key, or there are none.
+    /// The records of a load or a put don't rise strictly by key, or there are none.
     NotRising,
     /// A limit is out of its range.
     BadLimit,
@@ -117,7 +117,7 @@ pub enum Refusal {
 }
 
 impl Op {
-    /// The same operation. Only the pairs of a load or a put take memory.
+    /// The same operation. Only the records of a load or a put take memory.
     pub fn copy(&self, alloc: Global) -> Result<Op, NoMemory>
         ensures same { IfOk result (λ op. op ≡ self.now) }
         ensures memory { OnErr result (has_pairs self.now ≡ true) }
@@ -131,20 +131,20 @@ impl Op {
             Op::Set(key, value) => Op::Set(*key, *value),
             Op::Delete(key) => Op::Delete(*key),
             Op::DeleteRange(range, max) => Op::DeleteRange(*range, *max),
-            Op::Load(pairs) => Op::Load(pairs.copy(alloc)?),
-            Op::Put(pairs) => Op::Put(pairs.copy(alloc)?),
+            Op::Load(records) => Op::Load(records.copy(alloc)?),
+            Op::Put(records) => Op::Put(records.copy(alloc)?),
             Op::Lock(lock) => Op::Lock(*lock),
             Op::Mark => Op::Mark,
             Op::Back => Op::Back,
         })
     }
 
-    /// Whether the pairs of a load or a put rise strictly, and there is one. Any other operation is in order.
+    /// Whether the records of a load or a put rise strictly, and there is one. Any other operation is in order.
     pub fn is_orderly(&self) -> bool
         ensures { result ≡ is_orderly self.now }
     {
         match self {
-            Op::Load(pairs) | Op::Put(pairs) => is_rising(pairs.as_slice()),
+            Op::Load(records) | Op::Put(records) => is_rising(records.as_slice()),
             _ => true,
         }
     }
@@ -203,7 +203,7 @@ impl Op {
                 Some(Lock::exclusive(Range::point(*key)))
             }
             Op::DeleteRange(range, _) => Some(Lock::exclusive(*range)),
-            Op::Load(pairs) | Op::Put(pairs) => Some(Lock::exclusive(span(pairs.as_slice()))),
+            Op::Load(records) | Op::Put(records) => Some(Lock::exclusive(span(records.as_slice()))),
             Op::Lock(lock) => Some(*lock),
             Op::Mark | Op::Back => None,
         }
@@ -211,7 +211,7 @@ impl Op {
 }
 
 impl Step {
-    /// The same step. Only the pairs of a load or a put take memory.
+    /// The same step. Only the records of a load or a put take memory.
     pub fn copy(&self, alloc: Global) -> Result<Step, NoMemory>
         ensures same { IfOk result (λ step. step ≡ self.now) }
         ensures memory { OnErr result (step_has_pairs self.now ≡ true) }
@@ -262,12 +262,12 @@ pub fn is_limit(limit: u64) -> bool
     1 <= limit && limit <= MAX_LIMIT
 }
 
-// The range from the first key of the pairs to the last.
-fn span(pairs: &[(Key, Value)]) -> Range
-    requires { is_rising pairs.now ≡ true }
-    ensures { result ≡ span pairs.now }
+// The range from the first key of the records to the last.
+fn span(records: &[(Key, Value)]) -> Range
+    requires { is_rising records.now ≡ true }
+    ensures { result ≡ span records.now }
 {
-    let (Some(first), Some(last)) = (pairs.first(), pairs.last()) else {
+    let (Some(first), Some(last)) = (records.first(), records.last()) else {
         unreachable!()
     };
     let Some(range) = Range::new(first.0, last.0) else {

@@ -21,19 +21,20 @@ use Rattle.am_record.specs.declared.step.Refusal.TheVariants.{NoSuchTx, TooManyO
 use Rattle.am_record.specs.declared.step.Refusal.TheVariants.{NoMemory}
 use Rattle.am_record.specs.Events.{Event}
 use Rattle.am_index.specs.Content.{content}
-use Rattle.am_serial.specs.Trace.{Trace, Answered, ops_of, Answers, Commits, Aborts, effect, effect_of_do}
-use Rattle.am_serial.specs.Trace.{runs_made, Nothing}
-use Rattle.am_serial.specs.Machine.{State, MayDo, is_full, due, next, overlay_in}
-use Rattle.am_effect.specs.Laws.{taken_back}
-use Rattle.am_effect.specs.Store.{Store, opened, MayReply, Follows, after_step, after_all}
-use Rattle.am_sound.specs.Right.{IsSoundStore}
-use Rattle.am_sound.specs.StoreState.{Active, StoreState, is_in, in_table, MayAnswer, state_after, empty_state}
-use Rattle.am_sound.specs.StateOf.{IsStateOf, active_of}
-use Rattle.am_core.specs.StoreSteps.{IsSoundAt, Extends}
-use Rattle.am_core.proofs.StoreSteps.{Lifts, Sounds}
-use Rattle.am_dialogue.specs.Say.{refusal_due}
-use Rattle.am_dialogue.proofs.SaidByMap.{Where, machine_at, state_at, answer_answers, answer_counts, due_is, one_view}
-use Rattle.am_dialogue.proofs.SaidByMap.{next_did, next_committed, next_aborted, ops_did}
+use Rattle.am_law_serial.specs.Trace.{Trace, Answered, ops_of, Answers, Commits, Aborts, effect, effect_of_do}
+use Rattle.am_law_serial.specs.Trace.{runs_made, Nothing}
+use Rattle.am_law_serial.specs.Machine.{State, MayDo, is_full, due, next, overlay_in}
+use Rattle.am_law_effect.specs.Laws.{taken_back}
+use Rattle.am_law_effect.specs.Store.{Store, opened, MayReply, IsRunOf, after_step, after_all}
+use Rattle.am_law_sound.specs.Right.{IsSoundStore}
+use Rattle.am_law_sound.specs.StoreState.{Active, StoreState, is_in, in_table, MayAnswer, state_after, empty_state}
+use Rattle.am_law_sound.specs.StateOf.{IsStateOf, active_of}
+use Rattle.am_store.specs.StoreSteps.{IsSoundAt, Extends}
+use Rattle.am_store.proofs.StoreSteps.{Lifts, Sounds}
+use Rattle.am_line_dialogue.specs.Say.{refusal_due}
+use Rattle.am_line_dialogue.proofs.SaidByMap.{Where, machine_at, state_at, answer_answers, answer_counts, due_is}
+use Rattle.am_line_dialogue.proofs.SaidByMap.{one_view}
+use Rattle.am_line_dialogue.proofs.SaidByMap.{next_did, next_committed, next_aborted, ops_did}
 use Rattle.am_replica.specs.Bodies.{refusal_behind, own_by, own_behind, kept_behind, kept, reply_by, reply_behind}
 use Rattle.am_replica.specs.Bodies.{replies_behind, replies, leaves}
 use Rattle.am_replica_store.specs.Alone.{notes_of, committed_map, draft_map, IsIdle, IsFree, IsInside, IsAlone}
@@ -46,7 +47,7 @@ after_one_more : (before : Trace) (s : Store) (e : Event) → after_all s (befor
 after_one_more [] s e = refl
 after_one_more (x ∷ trace) s e = after_one_more trace (after_step s x.0 x.1) e
 
-last_follows : (most_runs : ℕ) (trace : Trace) (s : Store) (e : Event) → Follows most_runs s (trace ++ e ∷ []) →
+last_follows : (most_runs : ℕ) (trace : Trace) (s : Store) (e : Event) → IsRunOf most_runs s (trace ++ e ∷ []) →
     MayReply most_runs (after_all s trace) e.0 e.1
 last_follows most_runs [] s e f = f.0
 last_follows most_runs (x ∷ trace) s e f = last_follows most_runs trace (after_step s x.0 x.1) e f.1
@@ -73,7 +74,7 @@ goes trace p p' step reply at most on =
       most = most';
       leads = ap (λ (s : Store). s.state) (after_one_more trace opened (step, reply));
       may = last_follows 65535 trace opened (step, reply)
-          (subst (λ n. Follows n opened (trace ++ (step, reply) ∷ [])) most' there.at.follows);
+          (subst (λ n. IsRunOf n opened (trace ++ (step, reply) ∷ [])) most' there.at.follows);
     }
 
 -- ---- where a store stands with one transaction or none

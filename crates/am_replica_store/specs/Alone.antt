@@ -6,12 +6,12 @@ use Rattle.am_record.specs.declared.step.Reply.{Reply}
 use Rattle.am_record.specs.declared.step.Reply.TheVariants.{Refused}
 use Rattle.am_record.specs.declared.step.Refusal.TheVariants.{NoMemory, TooManyRuns}
 use Rattle.am_index.specs.Content.{content}
-use Rattle.am_undo.specs.declared.note.Note.{Note}
-use Rattle.am_serial.specs.Trace.{Trace, Answered, ops_of}
-use Rattle.am_effect.specs.Laws.{taken_back}
-use Rattle.am_effect.specs.Store.{opened, after_all}
-use Rattle.am_sound.specs.StateOf.{IsStateOf}
-use Rattle.am_sound.specs.StoreState.{Active, StoreState}
+use Rattle.am_store_undo.specs.declared.note.Note.{Note}
+use Rattle.am_law_serial.specs.Trace.{Trace, Answered, ops_of}
+use Rattle.am_law_effect.specs.Laws.{taken_back}
+use Rattle.am_law_effect.specs.Store.{opened, after_all}
+use Rattle.am_law_sound.specs.StateOf.{IsStateOf}
+use Rattle.am_law_sound.specs.StoreState.{Active, StoreState}
 
 -- what the active transaction noted
 abbrev pub notes_of : List Active → List Note

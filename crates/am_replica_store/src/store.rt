@@ -5,14 +5,14 @@ ghost use Rattle.am_record.specs.Limits.{max_runs};
 ghost use Rattle.am_record.specs.Plain.{PlainMap};
 ghost use Rattle.am_record.specs.declared.step.Op.{Op as TheOp};
 ghost use Rattle.am_replica.specs.Bodies.{reply_behind, own_behind};
-ghost use Rattle.am_sound.specs.StoreState.{empty_state};
+ghost use Rattle.am_law_sound.specs.StoreState.{empty_state};
 ghost use Rattle.am_replica_store.specs.Alone.{committed_map, draft_map, IsIdle, IsAlone, IsInside, is_out_of_room};
 ghost use Rattle.am_replica_store.specs.Alone.{IsCommitted, IsAborted};
 
-use am_btree::BTree;
-use am_core::Store;
+use am_index_btree::BTree;
 use am_record::{HashKey, NoMemory, Op, Range, Refusal, Reply, Step};
 use am_replica::Machine;
+use am_store::Store;
 use std::alloc::Global;
 use std::marker::Model;
 
@@ -37,8 +37,8 @@ impl Drop for ReplicaStore {
 }
 
 impl Model for ReplicaStore {
-    ghost use Rattle.am_sound.specs.StoreState.{StoreState};
-    ghost use Rattle.am_core.specs.StoreContent.{state_code};
+    ghost use Rattle.am_law_sound.specs.StoreState.{StoreState};
+    ghost use Rattle.am_store.specs.StoreContent.{state_code};
     ghost use Rattle.am_replica_store.specs.Alone.{IsAlone};
 
     ghost Value = { StoreState };
@@ -94,7 +94,7 @@ impl Machine for ReplicaStore {
     ghost idle = { IsIdle };
 
     fn run(&mut self, ops: &[Op]) -> Result<Vec<Reply>, NoMemory> {
-        am_sound::steps_lift();
+        am_law_sound::steps_lift();
         let mut told = Vec::with_capacity(self.alloc, ops.len())?;
         let tx = begin(&mut self.store)?;
         self.active = Some(tx);
@@ -127,7 +127,7 @@ fn begin(store: &mut Store<BTree>) -> Result<u64, NoMemory>
     ensures goes { IsAlone store.old None → IfOk result (λ tx. IsInside store.new tx [] (draft_map store.old)) }
     ensures same { IsAlone store.old None → OnErr result (store.new ≡ store.old) }
 {
-    am_sound::steps_lift();
+    am_law_sound::steps_lift();
     match store.step(Step::Begin) {
         Reply::Begun(tx) => Ok(tx),
         _ => Err(NoMemory),

@@ -9,17 +9,17 @@ use Rattle.std.proofs.lemmas.List.{map-append, take_more, take-append-drop, drop
 use Rattle.am_record.specs.Plain.{PlainMap}
 use Rattle.am_record.specs.declared.step.Op.{Op}
 use Rattle.am_record.specs.declared.step.Reply.{Reply}
-use Rattle.am_wire.specs.declared.request.Request.TheVariants.{Do, Stage}
-use Rattle.am_dialogue.specs.declared.lines.ParsedLine.{ParsedLine}
-use Rattle.am_dialogue.specs.declared.lines.ParsedLine.TheVariants.{Asked}
-use Rattle.am_entries.specs.Reading.{entry_at}
-use Rattle.am_entries.specs.declared.block.Block.{Block as EntryBlock}
-use Rattle.am_entries.specs.Texts.{TheBlock, view, views}
+use Rattle.am_line_wire.specs.declared.request.Request.TheVariants.{Do, Stage}
+use Rattle.am_line_dialogue.specs.declared.lines.ParsedLine.{ParsedLine}
+use Rattle.am_line_dialogue.specs.declared.lines.ParsedLine.TheVariants.{Asked}
+use Rattle.am_replica_entries.specs.Reading.{entry_at}
+use Rattle.am_replica_entries.specs.declared.block.Block.{Block as EntryBlock}
+use Rattle.am_replica_entries.specs.Texts.{TheBlock, view, views}
 use Rattle.am_replica.specs.Bodies.{replies, leaves, given}
 use Rattle.am_replica.specs.Ordered.{Sum, same_sum, Ordered, Seen, Stands, Fails, outcome, after, outcomes, after_all}
 use Rattle.am_replica.specs.declared.block.Block.{Block}
-use Rattle.am_blocks.specs.Blocks.{Line, Asks, Stages, waiting, ops_of}
-use Rattle.am_block_lines.specs.Lines.{said, asked_by, is_own, LeavesWaiting, IsBlockOf, told_lines}
+use Rattle.am_replica_blocks.specs.Blocks.{Line, Asks, Stages, waiting, ops_of}
+use Rattle.am_replica_lines.specs.Lines.{said, asked_by, is_own, LeavesWaiting, IsBlockOf, told_lines}
 use Rattle.am_replica_texts.specs.Entries.{AreBlocksOf, IsEntryOf, IsNoEntry}
 
 -- ---- what is asked tells the lines

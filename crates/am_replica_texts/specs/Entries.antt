@@ -1,9 +1,9 @@
 -- The texts of entries, as a replica takes them.
 use Rattle.std.specs.Prelude.{◌≡◌, ℕ, List, [], ◌∷◌, Ok}
 use Rattle.am_record.specs.declared.step.Reply.{Reply}
-use Rattle.am_entries.specs.Reading.{entry_at}
-use Rattle.am_entries.specs.Texts.{TheBlock}
-use Rattle.am_block_lines.specs.Lines.{IsBlockOf}
+use Rattle.am_replica_entries.specs.Reading.{entry_at}
+use Rattle.am_replica_entries.specs.Texts.{TheBlock}
+use Rattle.am_replica_lines.specs.Lines.{IsBlockOf}
 use Rattle.am_replica.specs.Ordered.{Sum, Ordered, Seen, seen_all, outcomes, after_all}
 use Rattle.am_replica.specs.declared.block.Block.{Block}
 use Rattle.am_replica_texts.specs.declared.apply.EntryOutcome.{EntryOutcome}

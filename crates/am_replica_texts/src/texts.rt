@@ -1,14 +1,14 @@
 //! The blocks of an entry's text.
 
 ghost use Rattle.std.specs.Prelude.{◌≡◌, ◌<◌, ◌^◌, List, length, IfOk};
-ghost use Rattle.am_entries.specs.Texts.{view, views};
-ghost use Rattle.am_block_lines.specs.Lines.{IsBlockOf};
+ghost use Rattle.am_replica_entries.specs.Texts.{view, views};
+ghost use Rattle.am_replica_lines.specs.Lines.{IsBlockOf};
 ghost use Rattle.am_replica.specs.declared.block.Block.{Block as TheBlock};
 ghost use Rattle.am_replica_texts.specs.Entries.{AreBlocksOf, IsEntryOf, IsNoEntry};
 
-use am_block_lines::{BlockFault, read_block};
-use am_entries::{ReadError, read_entry};
 use am_replica::{Block, Digest};
+use am_replica_entries::{ReadError, read_entry};
+use am_replica_lines::{BlockFault, read_block};
 use std::alloc::{AllocError, AllocFailed, Global};
 
 /// Why a text has no blocks.
@@ -64,7 +64,7 @@ pub(crate) fn read_blocks<D: Digest>(
 fn all_blocks<D: Digest>(
     alloc: Global,
     digest: &D,
-    entry: &[am_entries::Block],
+    entry: &[am_replica_entries::Block],
 ) -> Result<Vec<Block>, TextFault>
     ensures read { IfOk result (λ blocks. AreBlocksOf D.digest_of (views entry.now) blocks.items) }
     ensures none { result ≡ Err TextFault.NoEntry → (blocks : List TheBlock) →
@@ -80,7 +80,7 @@ fn all_blocks<D: Digest>(
 fn one_block<D: Digest>(
     alloc: Global,
     digest: &D,
-    block: &am_entries::Block,
+    block: &am_replica_entries::Block,
 ) -> Result<Block, TextFault>
     ensures read { IfOk result (λ b. IsBlockOf D.digest_of (view block.now) b) }
     ensures none { result ≡ Err TextFault.NoEntry → (b : TheBlock) → IsBlockOf D.digest_of (view block.now) b → ⊥ }

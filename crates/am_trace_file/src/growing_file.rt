@@ -1,7 +1,6 @@
 //! The file of a trace that grows while its server runs.
 
-use crate::fault::ListenFault;
-use am_sink::Failed;
+use am_line_sink::Failed;
 use std::fs::File;
 use std::io::Write;
 
@@ -12,19 +11,19 @@ pub struct GrowingFile {
     name: String,
     file: File,
     len: u64,
-    // Whether it says too what becomes of its server, which else says it at its end.
-    says_fault: bool,
+    // What is said then too, where the server doesn't say it at its end.
+    warning: Option<&'static str>,
 }
 
 impl GrowingFile {
     /// The file, of which all that stood in it is forgotten. A device keeps what it is.
-    pub fn new(file: File, name: String, says_fault: bool) -> GrowingFile {
+    pub fn new(file: File, name: String, warning: Option<&'static str>) -> GrowingFile {
         let _ = file.set_len(0);
         GrowingFile {
             name,
             file,
             len: 0,
-            says_fault,
+            warning,
         }
     }
 
@@ -36,8 +35,8 @@ impl GrowingFile {
         if let Err(fault) = self.file.write_all(piece) {
             let _ = self.file.set_len(self.len);
             let _ = eprintln!(rt; "amserve: {}: {fault}", self.name);
-            if self.says_fault {
-                let _ = eprintln!(rt; "{}", ListenFault::CannotWriteTrace(None).words());
+            if let Some(warning) = self.warning {
+                let _ = eprintln!(rt; "{warning}");
             }
             return Err(Failed);
         }

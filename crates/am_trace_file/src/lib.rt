@@ -3,7 +3,7 @@
 //! - [`TraceFile`]: the file by its name. One that is written whole stands beside it until the end.
 //! - [`GrowingFile`]: what is written into, by whole pieces.
 //! - [`Outbox`]: the pieces that wait for the thread that writes them, and [`Sending`], a sink that puts them there.
-//! - [`ListenFault`]: why a server doesn't end well, and the program's status and words for it.
+//! - [`TraceFileFault`]: why a file can't be opened or written.
 #![tactic(auto)]
 
 mod fault;
@@ -11,7 +11,7 @@ mod growing_file;
 mod outbox;
 mod trace_file;
 
-pub use fault::ListenFault;
+pub use fault::TraceFileFault;
 pub use growing_file::GrowingFile;
 pub use outbox::{Outbox, Sending};
 pub use trace_file::TraceFile;

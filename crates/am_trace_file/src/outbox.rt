@@ -6,7 +6,7 @@ ghost use Rattle.std.specs.Prelude.{◌≡◌, false};
 ghost use Rattle.am_trace_file.specs.Outboxes.{sending_failures, is_unsent};
 
 use crate::growing_file::GrowingFile;
-use am_sink::{Failed, Sink};
+use am_line_sink::{Failed, Sink};
 use std::alloc::Global;
 use std::mem;
 use std::rt::Clock;

@@ -2,7 +2,7 @@
 
 ghost use Rattle.std.specs.Prelude.{◌≡◌, is_some};
 
-use crate::fault::ListenFault;
+use crate::fault::TraceFileFault;
 use std::fs::{File, Metadata, OpenFile, OpenOptions};
 use std::io::{ErrorKind, Write};
 use std::rt::Files;
@@ -24,15 +24,15 @@ impl TraceFile {
     /// Opens the file itself, which grows. What it had is still there.
     ///
     /// # Errors
-    /// CannotWriteTrace, where the system refuses it; NoMemory, where memory was refused.
+    /// CannotWrite, where the system refuses it; NoMemory, where memory was refused.
     pub fn open_growing<R: AllocGlobal + Files<File = File>>(
         rt: &R,
         path: &str,
-    ) -> Result<(TraceFile, File), ListenFault> {
+    ) -> Result<(TraceFile, File), TraceFileFault> {
         let named = TraceFile::of(rt, path, None)?;
         match grow(rt, path) {
             Ok(file) => Ok((named, file)),
-            Err(why) => Err(ListenFault::CannotWriteTrace(Some(why))),
+            Err(why) => Err(TraceFileFault::CannotWrite(why)),
         }
     }
 
@@ -40,15 +40,15 @@ impl TraceFile {
     /// that is done to the file that it leads to.
     ///
     /// # Errors
-    /// CannotWriteTrace, where the system refuses it, or for a folder; NoMemory, where memory was refused.
+    /// CannotWrite, where the system refuses it, or for a folder; NoMemory, where memory was refused.
     pub fn open_beside<R: AllocGlobal + Files<File = File>>(
         rt: &R,
         path: &str,
-    ) -> Result<(TraceFile, File), ListenFault> {
+    ) -> Result<(TraceFile, File), TraceFileFault> {
         match fs::symlink_metadata(rt, path) {
             Ok(found) if found.is_symlink() => match fs::canonicalize(rt, path) {
                 Ok(target) => TraceFile::open_at(rt, target.as_str()),
-                Err(why) => Err(ListenFault::CannotWriteTrace(Some(why))),
+                Err(why) => Err(TraceFileFault::CannotWrite(why)),
             },
             _ => TraceFile::open_at(rt, path),
         }
@@ -58,7 +58,7 @@ impl TraceFile {
     fn open_at<R: AllocGlobal + Files<File = File>>(
         rt: &R,
         path: &str,
-    ) -> Result<(TraceFile, File), ListenFault> {
+    ) -> Result<(TraceFile, File), TraceFileFault> {
         match fs::metadata(rt, path) {
             // (of a folder the system says that it is one)
             Ok(found) if !found.is_file() => TraceFile::open_growing(rt, path),
@@ -72,26 +72,26 @@ impl TraceFile {
         rt: &R,
         path: &str,
         found: Option<&Metadata>,
-    ) -> Result<(TraceFile, File), ListenFault> {
+    ) -> Result<(TraceFile, File), TraceFileFault> {
         for number in 1..MOST_NAMES {
             let name = name_beside(rt, path, number)?;
             let named = TraceFile::of(rt, path, Some(name))?;
             match create_new(rt, named.first_place(), found) {
                 Ok(file) => return Ok((named, file)),
                 Err(why) if why.kind() == ErrorKind::AlreadyExists => {}
-                Err(why) => return Err(ListenFault::CannotWriteTrace(Some(why))),
+                Err(why) => return Err(TraceFileFault::CannotWrite(why)),
             }
         }
         let why = io::Error::from(ErrorKind::AlreadyExists);
-        Err(ListenFault::CannotWriteTrace(Some(why)))
+        Err(TraceFileFault::CannotWrite(why))
     }
 
     fn of<R: AllocGlobal>(
         rt: &R,
         path: &str,
         part: Option<String>,
-    ) -> Result<TraceFile, ListenFault> {
-        let path = String::from_str(rt.alloc(), path).map_err(|_| ListenFault::NoMemory)?;
+    ) -> Result<TraceFile, TraceFileFault> {
+        let path = String::from_str(rt.alloc(), path).map_err(|_| TraceFileFault::NoMemory)?;
         Ok(TraceFile { path, part })
     }
 
@@ -113,18 +113,18 @@ impl TraceFile {
     /// Writes the first line once more, over one as long, where the file hasn't its name yet.
     ///
     /// # Errors
-    /// CannotWriteTrace, where the system refuses it; nothing is left beside the file then.
+    /// CannotWrite, where the system refuses it; nothing is left beside the file then.
     pub fn mend_first_line<R: Files<File = File>>(
         &self,
         rt: &R,
         line: &[u8],
-    ) -> Result<(), ListenFault> {
+    ) -> Result<(), TraceFileFault> {
         let Some(name) = &self.part else {
             return Ok(());
         };
         write_over(rt, name.as_str(), line).map_err(|why| {
             self.forget(rt);
-            ListenFault::CannotWriteTrace(Some(why))
+            TraceFileFault::CannotWrite(why)
         })
     }
 
@@ -132,15 +132,15 @@ impl TraceFile {
     /// the two names take 8 KB.
     ///
     /// # Errors
-    /// CannotWriteTrace, where the system refuses the name; nothing is left beside the file then.
+    /// CannotWrite, where the system refuses the name; nothing is left beside the file then.
     #[inline(never)]
-    pub fn keep<R: Files>(&self, rt: &R) -> Result<(), ListenFault> {
+    pub fn keep<R: Files>(&self, rt: &R) -> Result<(), TraceFileFault> {
         let Some(name) = &self.part else {
             return Ok(());
         };
         fs::rename(rt, name.as_str(), self.path.as_str()).map_err(|why| {
             self.forget(rt);
-            ListenFault::CannotWriteTrace(Some(why))
+            TraceFileFault::CannotWrite(why)
         })
     }
 
@@ -164,13 +164,13 @@ fn write_over<R: Files<File = File>>(rt: &R, path: &str, bytes: &[u8]) -> io::Re
 }
 
 // A name beside the path: the first one with no number.
-fn name_beside<R: AllocGlobal>(rt: &R, path: &str, number: u32) -> Result<String, ListenFault> {
+fn name_beside<R: AllocGlobal>(rt: &R, path: &str, number: u32) -> Result<String, TraceFileFault> {
     let name = if number == 1 {
         format!(in rt.alloc(); "{path}.part")
     } else {
         format!(in rt.alloc(); "{path}.{number}.part")
     };
-    name.map_err(|_| ListenFault::NoMemory)
+    name.map_err(|_| TraceFileFault::NoMemory)
 }
 
 // A file of that name, where there is none.

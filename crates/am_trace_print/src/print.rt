@@ -9,8 +9,8 @@ ghost use Rattle.am_trace_text.specs.Replies.{IsRefusal, IsReply, refusal_fields
 ghost use Rattle.am_trace_text.specs.Lines.{reply_words, event_words, with_lf, IsEvent};
 
 use crate::field::Field;
+use am_line_text::{ReplyWord, refusal_code};
 use am_record::{Key, NoMemory, Refusal, Reply, Step, Value};
-use am_text::{ReplyWord, refusal_code};
 use am_trace_text::Version;
 use std::alloc::Global;
 use std::marker::Model;

@@ -2,14 +2,14 @@
 
 ghost use Rattle.std.specs.Prelude.{◌≡◌, ◌++◌, OnOk};
 ghost use Rattle.std.specs.List.{join_with_byte};
-ghost use Rattle.am_text.specs.Locks.{mode_word};
+ghost use Rattle.am_line_text.specs.Locks.{mode_word};
 ghost use Rattle.am_trace_text.specs.Lines.{step_words};
 ghost use Rattle.am_trace_text.specs.Steps.{IsStep, op_fields, verb_of};
 
 use crate::field::Field;
 use crate::print::Page;
+use am_line_text::Verb;
 use am_record::{Mode, NoMemory, Op, Step};
-use am_text::Verb;
 use am_trace_text::Version;
 
 impl Page {

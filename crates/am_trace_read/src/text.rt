@@ -4,9 +4,9 @@ ghost use Rattle.std.specs.Prelude.{◌≡◌, ◌++◌, ℕ, IfOk, IfSome, IfNo
 ghost use Rattle.am_trace_text.specs.Lines.{IsEvent, event_words, with_lf, header, IsTextOf};
 ghost use Rattle.am_trace_text.specs.Lines.{IsBadLine, BeginsNoEvent, BeginsNoHeader};
 
+use crate::front::front_event;
+use crate::line::read_by_fields;
 use am_record::{Reply, Step};
-use am_trace_fields::read_by_fields;
-use am_trace_front::front_event;
 use am_trace_text::{ReadFault, Version};
 use std::alloc::Global;
 use thiserror::Error;

@@ -10,7 +10,7 @@ use Rattle.am_record.specs.declared.step.Step.{Step}
 use Rattle.am_record.specs.declared.step.Step.TheVariants.{Do}
 use Rattle.am_record.specs.declared.step.Reply.{Reply}
 use Rattle.am_record.specs.declared.step.Reply.TheVariants.{Begun, Deleted}
-use Rattle.am_text.specs.Verbs.{word_of}
+use Rattle.am_line_text.specs.Verbs.{word_of}
 use Rattle.am_trace_text.specs.Lines.{IsEvent, AreEvents, event_words, with_lf, event_lines, trace_text, IsTextOf}
 use Rattle.am_trace_text.specs.Replies.{reply_fields, IsReply}
 use Rattle.am_trace_text.specs.Steps.{argument_fields, step_fields, verb_of, IsOp, IsStep}

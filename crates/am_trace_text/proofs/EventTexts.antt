@@ -10,9 +10,9 @@ use Rattle.am_record.specs.declared.step.Reply.{Reply}
 use Rattle.am_record.specs.declared.step.Reply.TheVariants as reply
 use Rattle.am_record.specs.declared.step.Refusal.{Refusal}
 use Rattle.am_record.specs.declared.step.Refusal.TheVariants as refusal
-use Rattle.am_text.specs.Fields.{line_fields, has_no_space}
-use Rattle.am_text.specs.Verbs.{word_of}
-use Rattle.am_text.specs.declared.verb.Verb.TheVariants as verb
+use Rattle.am_line_text.specs.Fields.{line_fields, has_no_space}
+use Rattle.am_line_text.specs.Verbs.{word_of}
+use Rattle.am_line_text.specs.declared.verb.Verb.TheVariants as verb
 use Rattle.am_trace_text.specs.Cuts.{has_no, IsParted}
 use Rattle.am_trace_text.specs.Words.{hex, key_word, record_word}
 use Rattle.am_trace_text.specs.Bounds.{IsNumber}

@@ -17,10 +17,10 @@ use Rattle.std.proofs.lemmas.Nat.{be_bytes_8, from_be_bytes-to_be_bytes_8}
 use Rattle.am_record.specs.Records.{Records}
 use Rattle.am_record.specs.OrderedKey.{OrderedKey, key_of, bytes_of, number_key, key_of-bytes_of, bytes_of-key_of}
 use Rattle.am_record.proofs.Outcomes.{mapped, gate}
-use Rattle.am_text.specs.Numbers.{is_numeral, numeral_value, number_for, IsNumeralOf}
-use Rattle.am_text.specs.Keys.{key_for}
-use Rattle.am_text.specs.Values.{value_for}
-use Rattle.am_text.specs.Records.{is_equals}
+use Rattle.am_line_text.specs.Numbers.{is_numeral, numeral_value, number_for, IsNumeralOf}
+use Rattle.am_line_text.specs.Keys.{key_for}
+use Rattle.am_line_text.specs.Values.{value_for}
+use Rattle.am_line_text.specs.Records.{is_equals}
 use Rattle.am_trace_text.specs.Cuts.{has_no}
 use Rattle.am_trace_text.specs.Words.{hex_digit, hex_digits, hex, key_word, record_word}
 use Rattle.am_trace_text.specs.Bounds.{IsByteList, IsNumber, IsKey, IsValue, IsRecord, AreRecords}

@@ -16,9 +16,9 @@ use Rattle.am_record.proofs.Outcomes.{mapped, gate}
 use Rattle.am_trace_text.specs.Words.{hex, key_word, record_word}
 use Rattle.am_trace_text.specs.Bounds.{IsNumber, IsKey, IsValue, AreRecords}
 use Rattle.am_trace_text.specs.Replies.{refusal_fields, reply_fields, IsRefusal, IsReply}
-use Rattle.am_text.specs.ReplyWords.{word_text, refusal_code}
-use Rattle.am_text.specs.declared.reply_word.ReplyWord.{ReplyWord}
-use Rattle.am_text.specs.declared.reply_word.ReplyWord.TheVariants as word
+use Rattle.am_line_text.specs.ReplyWords.{word_text, refusal_code}
+use Rattle.am_line_text.specs.declared.reply_word.ReplyWord.{ReplyWord}
+use Rattle.am_line_text.specs.declared.reply_word.ReplyWord.TheVariants as word
 use Rattle.am_trace_text.specs.FieldReadings.{number_in, run_in, key_in, value_in, records_of_fields, nothing_in}
 use Rattle.am_trace_text.specs.FieldReadings.{one_number_in}
 use Rattle.am_trace_text.specs.FieldReadings.{one_key_in, one_value_in, key_and_number_in, number_and_run_in}

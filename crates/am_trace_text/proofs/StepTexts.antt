@@ -16,10 +16,10 @@ use Rattle.am_record.specs.declared.step.Op.TheVariants as op
 use Rattle.am_record.specs.declared.step.Step.{Step}
 use Rattle.am_record.specs.declared.step.Step.TheVariants.{Begin, Do, Commit, Abort, Merge, Clean}
 use Rattle.am_record.proofs.Outcomes.{mapped, gate}
-use Rattle.am_text.specs.Locks.{mode_word, interval_for, mode_for}
-use Rattle.am_text.specs.Verbs.{word_of, verb_for}
-use Rattle.am_text.specs.declared.verb.Verb.{Verb}
-use Rattle.am_text.specs.declared.verb.Verb.TheVariants as verb
+use Rattle.am_line_text.specs.Locks.{mode_word, interval_for, mode_for}
+use Rattle.am_line_text.specs.Verbs.{word_of, verb_for}
+use Rattle.am_line_text.specs.declared.verb.Verb.{Verb}
+use Rattle.am_line_text.specs.declared.verb.Verb.TheVariants as verb
 use Rattle.am_trace_text.specs.Cuts.{has_no}
 use Rattle.am_trace_text.specs.Words.{hex, key_word, record_word}
 use Rattle.am_trace_text.specs.Bounds.{IsNumber, IsKey, IsValue, IsRecord, AreRecords, IsRange}

@@ -6,10 +6,10 @@ use Rattle.std.specs.List.{AllByRecursion}
 use Rattle.std.proofs.lemmas.Slice.Eq.{bytes_eq-Decides}
 use Rattle.am_record.specs.declared.step.Refusal.{Refusal}
 use Rattle.am_trace_text.proofs.IsText.{same_some}
-use Rattle.am_text.specs.ReplyWords.{word_text, refusal_code}
-use Rattle.am_text.specs.declared.reply_word.ReplyWord.{ReplyWord}
+use Rattle.am_line_text.specs.ReplyWords.{word_text, refusal_code}
+use Rattle.am_line_text.specs.declared.reply_word.ReplyWord.{ReplyWord}
 use Rattle.am_trace_text.specs.FieldReadings.{word_for, all_words, refusal_for, coded_refusals}
-use Rattle.am_text.specs.declared.reply_word.ReplyWord.TheVariants.{Begun, Done, Found}
+use Rattle.am_line_text.specs.declared.reply_word.ReplyWord.TheVariants.{Begun, Done, Found}
 
 pub word_for-word_text : (w : ReplyWord) → word_for (word_text w) ≡ Some w
 unfolding word_for

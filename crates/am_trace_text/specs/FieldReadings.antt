@@ -12,14 +12,14 @@ use Rattle.am_record.specs.declared.step.Reply.{Reply}
 use Rattle.am_record.specs.declared.step.Reply.TheVariants as reply
 use Rattle.am_record.specs.declared.step.Refusal.{Refusal}
 use Rattle.am_record.specs.declared.step.Refusal.TheVariants as refusal
-use Rattle.am_text.specs.Numbers.{is_numeral, numeral_value, number_for}
-use Rattle.am_text.specs.Keys.{key_for}
-use Rattle.am_text.specs.Values.{value_for}
-use Rattle.am_text.specs.Locks.{interval_for, lock_in, mode_for}
-use Rattle.am_text.specs.Records.{is_equals}
-use Rattle.am_text.specs.ReplyWords.{word_text, refusal_code}
-use Rattle.am_text.specs.declared.reply_word.ReplyWord.{ReplyWord}
-use Rattle.am_text.specs.declared.reply_word.ReplyWord.TheVariants as word
+use Rattle.am_line_text.specs.Numbers.{is_numeral, numeral_value, number_for}
+use Rattle.am_line_text.specs.Keys.{key_for}
+use Rattle.am_line_text.specs.Values.{value_for}
+use Rattle.am_line_text.specs.Locks.{interval_for, lock_in, mode_for}
+use Rattle.am_line_text.specs.Records.{is_equals}
+use Rattle.am_line_text.specs.ReplyWords.{word_text, refusal_code}
+use Rattle.am_line_text.specs.declared.reply_word.ReplyWord.{ReplyWord}
+use Rattle.am_line_text.specs.declared.reply_word.ReplyWord.TheVariants as word
 use Rattle.am_trace_text.specs.declared.version.Version.{Version}
 use Rattle.am_trace_text.specs.declared.version.Version.TheVariants.{One, Three}
 use Rattle.am_trace_text.specs.declared.read.ReadFault.{ReadFault}

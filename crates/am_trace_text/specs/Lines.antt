@@ -7,7 +7,7 @@ use Rattle.am_record.specs.declared.step.Reply.{Reply}
 use Rattle.am_record.specs.declared.step.Reply.TheVariants.{Refused}
 use Rattle.am_record.specs.declared.step.Refusal.TheVariants.{SeatFull}
 use Rattle.am_record.specs.Events.{Event}
-use Rattle.am_text.specs.Fields.{line_fields}
+use Rattle.am_line_text.specs.Fields.{line_fields}
 use Rattle.am_trace_text.specs.Steps.{step_fields, IsStep, step_in}
 use Rattle.am_trace_text.specs.Replies.{reply_fields, IsReply}
 use Rattle.am_trace_text.specs.FieldReadings.{reply_in}

@@ -7,8 +7,8 @@ use Rattle.am_record.specs.declared.step.Reply.TheVariants.{Deleted, Committed, 
 use Rattle.am_record.specs.declared.step.Reply.TheVariants.{Cleaned, NoMark, Refused}
 use Rattle.am_record.specs.declared.step.Refusal.{Refusal}
 use Rattle.am_record.specs.declared.step.Refusal.TheVariants.{Busy, SeatFull}
-use Rattle.am_text.specs.ReplyWords.{word_text, refusal_code}
-use Rattle.am_text.specs.declared.reply_word.ReplyWord.TheVariants as word
+use Rattle.am_line_text.specs.ReplyWords.{word_text, refusal_code}
+use Rattle.am_line_text.specs.declared.reply_word.ReplyWord.TheVariants as word
 use Rattle.am_trace_text.specs.Words.{key_word, record_word, hex}
 use Rattle.am_trace_text.specs.Bounds.{IsNumber, IsKey, IsValue, AreRecords}
 use Rattle.am_trace_text.specs.Steps.{HasSavepoints, KnowsAllOps}

@@ -8,10 +8,10 @@ use Rattle.am_record.specs.declared.step.Op.TheVariants.{Get, Scan, ScanBack, In
 use Rattle.am_record.specs.declared.step.Op.TheVariants.{DeleteRange, Load, Put, Lock, Mark, Back}
 use Rattle.am_record.specs.declared.step.Step.{Step}
 use Rattle.am_record.specs.declared.step.Step.TheVariants.{Begin, Do, Commit, Abort, Merge, Clean}
-use Rattle.am_text.specs.Verbs.{word_of, verb_for}
-use Rattle.am_text.specs.Locks.{mode_word}
-use Rattle.am_text.specs.declared.verb.Verb.{Verb}
-use Rattle.am_text.specs.declared.verb.Verb.TheVariants as verb
+use Rattle.am_line_text.specs.Verbs.{word_of, verb_for}
+use Rattle.am_line_text.specs.Locks.{mode_word}
+use Rattle.am_line_text.specs.declared.verb.Verb.{Verb}
+use Rattle.am_line_text.specs.declared.verb.Verb.TheVariants as verb
 use Rattle.am_trace_text.specs.Words.{key_word, record_word, hex}
 use Rattle.am_trace_text.specs.Bounds.{IsNumber, IsKey, IsRecord, AreRecords, IsRange}
 use Rattle.am_trace_text.specs.FieldReadings.{number_in, one_number_in, nothing_in, one_key_in, key_and_value_in}

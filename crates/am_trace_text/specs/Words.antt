@@ -2,7 +2,7 @@
 use Rattle.std.specs.Prelude.{ℕ, ◌+◌, ◌/◌, ◌%◌, nat_lt, List, [], ◌∷◌, decimal, if◌then◌else◌}
 use Rattle.std.specs.Int.{w64, from_be_bytes}
 use Rattle.am_record.specs.OrderedKey.{OrderedKey, bytes_of}
-use Rattle.am_text.specs.Records.{record_field}
+use Rattle.am_line_text.specs.Records.{record_field}
 use Rattle.am_trace_text.specs.declared.version.Version.{Version}
 use Rattle.am_trace_text.specs.declared.version.Version.TheVariants.{One}
 

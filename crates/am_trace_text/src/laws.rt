@@ -8,7 +8,7 @@ ghost use Rattle.am_trace_text.specs.Versions.{needs_three, version_needed};
 ghost use Rattle.am_trace_text.specs.declared.version.Version.{Version};
 ghost use Rattle.am_trace_text.specs.declared.version.Version.TheVariants.{One, Two, Three};
 
-use am_text::words_are_fields;
+use am_line_text::words_are_fields;
 
 /// A text is that of one trace in one version, and either the text of a trace or bad in one line.
 pub fn traces_are_texts()

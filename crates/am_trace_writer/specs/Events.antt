@@ -46,7 +46,7 @@ abbrev pub count_to_max : (Reply → Bool) → List (Step × Reply) → ℕ
 count_to_max is events = add_count 0 (count_events is events)
 
 -- what was counted of these events
-pub record AreCountsOf (events : List (Step × Reply)) (c : EventCounts) : Type 0 where
+pub record AreEventCountsOf (events : List (Step × Reply)) (c : EventCounts) : Type 0 where
   pub commits : c.commits ≡ count_to_max is_commit events
   pub busy : c.busy ≡ count_to_max is_busy events
   pub too_many : c.too_many ≡ count_to_max is_too_many events
@@ -56,4 +56,4 @@ pub record AreCountsOf (events : List (Step × Reply)) (c : EventCounts) : Type 
 pub record AreTraceCountsOf (events : List (Step × Reply)) (kept : ℕ) (c : TraceCounts) : Type 0 where
   pub events_in_all : c.events ≡ add_count 0 (length events)
   pub kept_last : c.kept ≡ kept
-  pub kinds : AreCountsOf events c.of
+  pub kinds : AreEventCountsOf events c.of

@@ -5,10 +5,10 @@ use Rattle.std.specs.List.{list_any}
 use Rattle.std.proofs.Math.Bool.{or-false, or_assoc}
 use Rattle.std.proofs.lemmas.List.Folds.{list_any-append}
 use Rattle.std.proofs.lemmas.Bool.{true≢false}
-use Rattle.am_serial.specs.Trace.{Trace}
+use Rattle.am_law_serial.specs.Trace.{Trace}
 use Rattle.std.specs.Io.KnownBytes.{Appends}
-use Rattle.am_sink.specs.SinkWrites.{Gave, GaveBeginning}
-use Rattle.am_sink.proofs.Writes.{gave_then, beginning_of_first, beginning_then}
+use Rattle.am_line_sink.specs.SinkWrites.{Gave, GaveBeginning}
+use Rattle.am_line_sink.proofs.Writes.{gave_then, beginning_of_first, beginning_then}
 use Rattle.am_trace_text.specs.Lines.{event_lines, event_words, with_lf}
 use Rattle.am_trace_text.specs.declared.version.Version.TheVariants.{Three}
 use Rattle.am_trace_text.specs.Versions.{needs_three}

@@ -1,8 +1,8 @@
 -- What a writer of a trace made of the events that it took.
 use Rattle.std.specs.Prelude.{◌≡◌, ℕ, List, [], Bool, true, ◌||◌, Option, MatchBool}
 use Rattle.std.specs.List.{list_any}
-use Rattle.am_serial.specs.Trace.{Trace}
-use Rattle.am_sink.specs.SinkWrites.{Gave, GaveBeginning}
+use Rattle.am_law_serial.specs.Trace.{Trace}
+use Rattle.am_line_sink.specs.SinkWrites.{Gave, GaveBeginning}
 use Rattle.am_trace_text.specs.Lines.{event_lines}
 use Rattle.am_trace_text.specs.Versions.{needs_three}
 use Rattle.am_trace_text.specs.declared.version.Version.TheVariants.{Three}

@@ -2,7 +2,7 @@
 
 ghost use Rattle.std.specs.Prelude.{◌≡◌, []};
 ghost use Rattle.am_trace_writer.specs.Events.{is_commit, is_busy, is_too_many, is_wrong, count_events, add_count};
-ghost use Rattle.am_trace_writer.specs.Events.{AreCountsOf};
+ghost use Rattle.am_trace_writer.specs.Events.{AreEventCountsOf};
 
 use am_record::{Refusal, Reply, Step};
 
@@ -34,7 +34,7 @@ pub struct TraceCounts {
 impl EventCounts {
     /// Of no events.
     pub fn new() -> EventCounts
-        ensures { AreCountsOf [] result }
+        ensures { AreEventCountsOf [] result }
     {
         EventCounts {
             commits: 0,

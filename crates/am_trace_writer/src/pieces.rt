@@ -1,7 +1,7 @@
 //! Who takes a trace by pieces, while a server runs.
 
 ghost use Rattle.std.specs.Prelude.{◌≡◌, [], ◌++◌, Bool};
-ghost use Rattle.am_serial.specs.Trace.{Trace};
+ghost use Rattle.am_law_serial.specs.Trace.{Trace};
 
 use am_record::{Reply, Step};
 

@@ -1,15 +1,15 @@
 //! A trace that is written while its server runs.
 
 ghost use Rattle.std.specs.Prelude.{◌≡◌, ◌≢◌, ◌+◌, ◌^◌, ◌<◌, false, MatchBool, if◌then◌else◌};
-ghost use Rattle.am_sink.specs.SinkWrites.{Gave, GaveBeginning};
+ghost use Rattle.am_line_sink.specs.SinkWrites.{Gave, GaveBeginning};
 ghost use Rattle.am_trace_text.specs.Lines.{header};
 ghost use Rattle.std.specs.List.{list_any};
 ghost use Rattle.am_trace_text.specs.Versions.{needs_three};
 ghost use Rattle.am_trace_writer.specs.Writers.{TookLines};
 
 use crate::pieces::PieceTaker;
+use am_line_sink::{Sink, give_all};
 use am_record::{Reply, Step};
-use am_sink::{Sink, give_all};
 use am_trace_print::event_lines;
 use am_trace_text::{Version, needs_three};
 use std::alloc::Global;

@@ -1,8 +1,8 @@
 //! Digests of answers: those of Python's hashlib over the same lines.
 
-use am_answer_digest::AnswerDigest;
 use am_record::{Key, Records, Refusal, Reply, Value};
 use am_replica::Digest;
+use am_replica_digest::AnswerDigest;
 use std::test::Fail;
 
 // hashlib.sha256(b"OK\nVAL 6\nNONE\nROWS 2 ant=6 bee=7\n")

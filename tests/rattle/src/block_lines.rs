@@ -1,9 +1,9 @@
 //! The lines of a block, as operations.
 
-use am_block_lines::{BlockFault, read_block};
-use am_entries::{Block, Told};
 use am_record::{Key, NoMemory, Op, Records, Reply, Value};
 use am_replica::Digest;
+use am_replica_entries::{Block, Told};
+use am_replica_lines::{BlockFault, read_block};
 use std::alloc::Global;
 use std::test::Fail;
 

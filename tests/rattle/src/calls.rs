@@ -1,8 +1,8 @@
 //! Worked steps at the limits of the store.
 
-use am_btree::BTree;
-use am_core::Store;
+use am_index_btree::BTree;
 use am_record::{Entry, HashKey, Key, NoMemory, Op, Range, Records, Refusal, Reply, Step, Value};
+use am_store::Store;
 use std::alloc::Global;
 use std::process::Abort;
 

@@ -1,7 +1,7 @@
 //! Command lines of the programs.
 
-use am_command::{Audited, audited};
-use am_serve_command::{Listening, Options, Place, options};
+use am_program_options::{Listening, Options, Place, options};
+use am_program_start::{Audited, audited};
 
 /// Words after the program's name, and the options that they ask for, or the status with which they are refused.
 type Asked<'a> = (&'a [&'a str], Result<Options<'a>, u8>);

@@ -1,8 +1,8 @@
 //! The two shared counters.
 
-use am_counters::{CounterSeat, Counters};
-use am_engine::was_refused;
 use am_latch::{Blank, Latch, LatchName, Seat};
+use am_latch_counters::{CounterSeat, Counters};
+use am_latch_engine::was_refused;
 use am_record::{HashKey, MAX_RUNS, Step};
 use std::marker::Brand;
 use std::process::Abort;

@@ -1,6 +1,6 @@
 //! A directory of 1,000 keys, beside a plain list of those that live.
 
-use am_directory::{Directory, LabelCounts, Residence};
+use am_index_directory::{Directory, LabelCounts, Residence};
 use std::process::Abort;
 use std::test::Fail;
 

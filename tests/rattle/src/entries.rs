@@ -1,8 +1,8 @@
 //! Entries of the tests, and partitions with them.
 
 use am_index::{Hint, PartIndex};
-use am_list_index::ListIndex;
-use am_parts::Parts;
+use am_index_list::ListIndex;
+use am_index_parts::Parts;
 use am_record::{Entry, HashKey, Key, NoMemory, Value};
 use std::alloc::Global;
 use std::process::Abort;

@@ -2,10 +2,10 @@
 
 use crate::numbers::Numbers;
 use am_audit::check;
-use am_btree::BTree;
-use am_core::Store;
-use am_model::{Plain, alone};
+use am_index_btree::BTree;
 use am_record::{HashKey, Key, MAX_RUNS, NoMemory, Op, Range, Reply, Step};
+use am_record_model::{Plain, alone};
+use am_store::Store;
 use std::alloc::Global;
 use std::test::Fail;
 

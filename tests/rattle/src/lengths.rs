@@ -1,7 +1,8 @@
 //! Values of each length in a tree, whose leaves have room for short ones at first.
 
-use am_btree::BTree;
+use crate::trees::add;
 use am_index::{Hint, PartIndex};
+use am_index_btree::BTree;
 use am_record::{Entry, Key, Range, Value};
 use std::alloc::Global;
 use std::process::Abort;
@@ -31,7 +32,7 @@ fn entry(bytes: usize, number: u64) -> Entry {
 fn short_tree(rt: &impl Abort, alloc: Global, many: u64) -> BTree {
     let mut tree = BTree::new(alloc).expect(rt, "memory");
     for number in 0..many {
-        let is_new = tree.insert_new(entry(8, 2 * number));
+        let is_new = add(&mut tree, entry(8, 2 * number));
         assert!(rt; is_new == Ok(true));
     }
     tree
@@ -101,10 +102,8 @@ fn values_of_each_length_are_inserted_among_short_ones(rt: HostRuntime) {
             tree.insert(entry(bytes, number), Hint::none())
                 .expect(&rt, "memory");
             odd.push((bytes, number)).expect(&rt, "memory");
-            assert!(rt; tree.insert_new(entry(bytes, number + 2)) == Ok(true));
+            assert!(rt; add(&mut tree, entry(bytes, number + 2)) == Ok(true));
             odd.push((bytes, number + 2)).expect(&rt, "memory");
-            // The place is taken, whatever the length of what would come there.
-            assert!(rt; tree.insert_new(entry(64, number + 2)) == Ok(false));
         }
         let due = short_and_each(&rt, rt.alloc(), many, &odd);
         has_all(&rt, rt.alloc(), &tree, &due);
@@ -220,7 +219,7 @@ fn a_long_value_comes_back_in_a_split_leaf_and_no_room_is_asked(rt: HostRuntime)
     let before = tree.depth();
     // Short ones come between and behind them, so that their leaves are split.
     for number in 0..2_000_u64 {
-        assert!(rt; tree.insert_new(entry(3, number)) == Ok(number >= 100 || number % 2 == 1));
+        assert!(rt; add(&mut tree, entry(3, number)) == Ok(number >= 100 || number % 2 == 1));
     }
     assert!(rt; tree.depth() > before);
     let mut due = Vec::new(rt.alloc());

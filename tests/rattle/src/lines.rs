@@ -2,11 +2,11 @@
 
 use crate::rows;
 use crate::scene::Exchange;
-use am_alone::serve_in_memory;
+use am_line_alone::serve_in_memory;
+use am_line_session::End;
+use am_line_sink::StopSink;
+use am_line_source::PieceSource;
 use am_record::{HashKey, NoMemory};
-use am_session::End;
-use am_sink::StopSink;
-use am_stream::PieceSource;
 use std::alloc::Global;
 use std::process::Abort;
 use std::rt::Clock;

@@ -2,7 +2,7 @@
 
 use crate::entries::{byte, dead, live};
 use am_index::{Batch, Hint, PartIndex};
-use am_list_index::ListIndex;
+use am_index_list::ListIndex;
 use am_record::{Entry, Key, NoMemory, Range, Value};
 use std::alloc::Global;
 use std::process::Abort;

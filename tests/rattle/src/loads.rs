@@ -2,11 +2,11 @@
 
 use crate::entries::{byte, dead, live};
 use am_index::Hint;
-use am_list_index::ListIndex;
-use am_loads::load;
-use am_parts::Parts;
+use am_index_list::ListIndex;
+use am_index_parts::Parts;
 use am_record::{Entry, HashKey, Key, LAST_RUN, MAX_RUNS, NoMemory, Refusal, Reply, Value};
-use am_runs::{LoadFault, Run, cut_runs};
+use am_store_loads::load;
+use am_store_runs::{LoadFault, Run, cut_runs};
 use std::alloc::Global;
 use std::process::Abort;
 
@@ -55,7 +55,7 @@ fn is_refused(
 }
 
 fn has_pairs(rt: &impl Abort, run: &Run, pairs: &[(Key, Value)]) {
-    assert!(rt; run.pairs() == pairs);
+    assert!(rt; run.records() == pairs);
 }
 
 fn has_pieces_of_two(rt: &impl Abort, alloc: Global, records: &[(Key, Value)]) {
@@ -311,7 +311,7 @@ fn a_load_refused_memory_leaves_the_entries(rt: HostRuntime) {
     }
     assert!(rt; reply == Reply::Done);
     assert!(rt; parts.runs() == 1);
-    for pair in run.pairs() {
+    for pair in run.records() {
         assert!(rt; parts.find(1, pair.0) == Some((pair.1, false)));
     }
 }

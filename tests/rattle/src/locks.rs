@@ -1,7 +1,7 @@
 //! The table of locks.
 
-use am_locks::{Asked, LockTable};
 use am_record::{Key, Lock, MAX_ACTIVE, MAX_LOCKS, Mode, Range};
+use am_store_locks::{Asked, LockTable};
 use std::alloc::Global;
 use std::process::Abort;
 

@@ -1,16 +1,15 @@
 //! The line of counts that a server tells.
 
-use am_console::log_text;
-use am_doors::SessionCounts;
-use am_keeper::Counts;
-use am_parts::Figures;
+use am_index::Figures;
+use am_serve_connections::SessionCounts;
+use am_serve_drain::{ServerCounts, log_text};
 use am_trace_writer::{EventCounts, TraceCounts};
 use std::alloc::AllocError;
 
 // Three runs and one ghost, and no two numbers alike.
 #[test]
 fn each_count_is_told_by_its_name(rt: HostRuntime) -> Result<(), AllocError> {
-    let counts = Counts {
+    let counts = ServerCounts {
         sessions: SessionCounts {
             begun: 812,
             open: 4,

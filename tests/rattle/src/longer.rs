@@ -1,8 +1,8 @@
 //! Longer values in a store.
 
 use crate::narrow::Narrow;
-use am_core::Store;
 use am_record::{HashKey, Key, NoMemory, Op, Records, Refusal, Reply, Step, Value};
+use am_store::Store;
 use std::alloc::Global;
 use std::process::Abort;
 use std::test::Fail;

@@ -2,12 +2,12 @@
 
 use crate::entries::{add, live};
 use crate::loads::{loads_all, no_entries};
-use am_list_index::ListIndex;
-use am_locks::LockTable;
-use am_merge::{Wishes, merge_step};
-use am_parts::Parts;
+use am_index_list::ListIndex;
+use am_index_parts::Parts;
 use am_record::{Key, Range, Reply};
-use am_undo::{Note, UndoLog};
+use am_store_locks::LockTable;
+use am_store_merge::{Wishes, merge_step};
+use am_store_undo::{Note, UndoLog};
 use std::alloc::Global;
 use std::process::Abort;
 

@@ -1,12 +1,12 @@
 //! Merge steps, clean steps and their wishes.
 
-use am_btree::BTree;
 use am_index::{Hint, PartIndex};
-use am_list_index::ListIndex;
-use am_locks::{Asked, LockTable};
-use am_merge::{Wishes, clean_step, merge_step};
-use am_parts::Parts;
+use am_index_btree::BTree;
+use am_index_list::ListIndex;
+use am_index_parts::Parts;
 use am_record::{Entry, HashKey, Key, Lock, Mode, NoMemory, Range, Refusal, Reply, Value};
+use am_store_locks::{Asked, LockTable};
+use am_store_merge::{Wishes, clean_step, merge_step};
 use std::alloc::Global;
 use std::process::Abort;
 

@@ -1,7 +1,7 @@
 //! An index that gets room for long values, unless memory is refused.
 
 use am_index::{Batch, Hint, PLACES_AT_ONCE, PartIndex};
-use am_list_index::ListIndex;
+use am_index_list::ListIndex;
 use am_record::{Entry, Key, NoMemory, Range, Value};
 use std::alloc::Global;
 
@@ -123,14 +123,6 @@ impl PartIndex for Narrow {
         let added = self.index.insert(entry, hint);
         self.give_up();
         added
-    }
-
-    fn insert_new(&mut self, entry: Entry) -> Result<bool, NoMemory> {
-        if self.find(entry.part, entry.key).is_some() {
-            return Ok(false);
-        }
-        self.insert(entry, Hint::none())?;
-        Ok(true)
     }
 
     fn insert_among(&mut self, more: &[Entry]) -> usize {

@@ -1,9 +1,9 @@
 //! A sink that notes the calls to it.
 
-use am_alone::serve_alone;
+use am_line_alone::serve_alone;
+use am_line_sink::{Failed, Sink, StopSink};
+use am_line_source::PieceSource;
 use am_record::HashKey;
-use am_sink::{Failed, Sink, StopSink};
-use am_stream::PieceSource;
 use std::alloc::Global;
 use std::rt::Clock;
 use std::sync::Wait;

@@ -1,6 +1,6 @@
 //! Text that waits for its file.
 
-use am_sink::Sink;
+use am_line_sink::Sink;
 use am_trace_file::{GrowingFile, Outbox, Sending, TraceFile};
 use std::fs;
 use std::test::Fail;
@@ -27,7 +27,7 @@ fn lines_wait_up_to_a_bound(rt: HostRuntime) -> Result<(), Fail> {
     let path = "outbox_of_a_test";
     let (_, file) = TraceFile::open_growing(&rt, path).map_err(|_| "no file")?;
     let name = String::from_str(rt.alloc(), path)?;
-    outbox.give_file(&rt, GrowingFile::new(file, name, false));
+    outbox.give_file(&rt, GrowingFile::new(file, name, None));
     outbox.close(&rt);
     outbox.write_out(&rt);
     assert_eq!(rt; outbox.len(&rt), 0);

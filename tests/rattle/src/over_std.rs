@@ -1,10 +1,10 @@
 //! Streams of std that fail once.
 
 use crate::streams::{LINES, SEEN, lines_of};
+use am_line_sink::{Failed, Sink, StopSink, Writing};
+use am_line_source::{Reading, Source};
+use am_line_wire::put_reply;
 use am_record::Reply;
-use am_sink::{Failed, Sink, StopSink, Writing};
-use am_stream::{Reading, Source};
-use am_wire::put_reply;
 use std::alloc::Global;
 use std::io::{ErrorKind, Read, Write};
 use std::process::Abort;

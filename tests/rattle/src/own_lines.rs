@@ -1,9 +1,9 @@
 //! Connections: what they pass on of what comes.
 
 use crate::streams::lines_of;
-use am_doors::OwnLines;
-use am_sink::StopSink;
-use am_stream::PieceSource;
+use am_line_sink::StopSink;
+use am_line_source::PieceSource;
+use am_serve_connections::OwnLines;
 use std::alloc::Global;
 use std::process::Abort;
 use std::sync::Wait;

@@ -2,8 +2,8 @@
 
 use crate::entries::{add, byte, dead, live, over};
 use am_index::{Hint, PartIndex};
-use am_list_index::ListIndex;
-use am_parts::{Parts, RunFault};
+use am_index_list::ListIndex;
+use am_index_parts::{Parts, RunFault};
 use am_record::{Entry, HashKey, Key};
 use std::alloc::Global;
 use std::process::Abort;
@@ -43,7 +43,7 @@ fn bury(parts: &mut Parts<ListIndex>, part: u32, key: Key, value: u8) {
 }
 
 // Makes the entry of the place live, where one stands there and its key is live nowhere.
-#[tactic(auto, using(am_parts::proofs::Lives::live_nowhere))]
+#[tactic(auto, using(am_index_parts::proofs::Lives::live_nowhere))]
 fn revive(parts: &mut Parts<ListIndex>, part: u32, key: Key, value: u8) {
     if parts.find(part, key).is_some() && parts.place_of(key).is_none() {
         parts.set(part, key, byte(value), false, Hint::none());

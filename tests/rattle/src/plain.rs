@@ -1,8 +1,8 @@
 //! Worked answers of the plain map.
 
 use crate::keys::{key, range, value};
-use am_model::{Plain, alone};
 use am_record::{NoMemory, Op, Records, Reply};
+use am_record_model::{Plain, alone};
 use std::alloc::Global;
 use std::process::Abort;
 

@@ -2,12 +2,12 @@
 
 use crate::keys::{key, value};
 use am_audit::{Fault, FaultKind, check};
-use am_model::{Plain, alone};
+use am_line_text::LineFault;
+use am_line_wire::{Request, parse_line};
 use am_record::{MAX_RUNS, Op, Records, Reply};
-use am_text::LineFault;
+use am_record_model::{Plain, alone};
 use am_trace_print::trace_text;
 use am_trace_read::{TraceFault, read_trace};
-use am_wire::{Request, parse_line};
 use std::alloc::Global;
 use std::process::Abort;
 

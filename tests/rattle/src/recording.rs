@@ -1,10 +1,10 @@
 //! A backend that notes what is asked of it.
 
-use am_dialogue::{ActiveSession, ActiveSessions, EndAnswer, HoldAnswer};
+use am_line_dialogue::{ActiveSession, ActiveSessions, EndAnswer, HoldAnswer};
+use am_line_session::{Backend, End, serve};
+use am_line_sink::{Failed, Sink, StopSink};
+use am_line_source::{PieceSource, Source};
 use am_record::{NoMemory, Reply, Step};
-use am_session::{Backend, End, serve};
-use am_sink::{Failed, Sink, StopSink};
-use am_stream::{PieceSource, Source};
 use std::alloc::Global;
 use std::process::Abort;
 use std::rt::Clock;

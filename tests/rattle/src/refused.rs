@@ -1,10 +1,10 @@
 //! Steps over an index to which some inserts are refused.
 
-use am_btree::BTree;
-use am_core::Store;
 use am_index::PartIndex;
-use am_list_index::{ListIndex, Tight};
+use am_index_btree::BTree;
+use am_index_list::{ListIndex, Tight};
 use am_record::{HashKey, Key, NoMemory, Op, Range, Records, Refusal, Reply, Step, Value};
+use am_store::Store;
 use std::alloc::Global;
 use std::test::Fail;
 

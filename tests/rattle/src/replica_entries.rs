@@ -1,9 +1,9 @@
 //! Entries as texts, into a replica over its store.
 
-use am_answer_digest::AnswerDigest;
-use am_entries::{Block, Told, entry_text};
 use am_record::{HashKey, Reply, Value};
 use am_replica::{Digest, Outcome, Replica};
+use am_replica_digest::AnswerDigest;
+use am_replica_entries::{Block, Told, entry_text};
 use am_replica_store::ReplicaStore;
 use am_replica_texts::{EntryOutcome, apply_text};
 use std::alloc::Global;

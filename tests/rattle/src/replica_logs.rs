@@ -1,6 +1,6 @@
 //! The log of replicas: what counts of what the cluster takes.
 
-use am_log::{Deletion, Entry, Event, Floor, Log, LogFault, Name, Part, Snapshot, Text};
+use am_replica_log::{Deletion, Entry, Event, Floor, Log, LogFault, Name, Part, Snapshot, Text};
 use std::alloc::Global;
 use std::process::Abort;
 

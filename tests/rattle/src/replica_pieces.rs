@@ -1,7 +1,7 @@
 //! Entries that are put in parts, and read again; and who puts them.
 
-use am_log::{Entry, Event, Floor, Log, Name, Part, Snapshot};
-use am_pieces::{Writer, part_at, pieces_before_head};
+use am_replica_log::{Entry, Event, Floor, Log, Name, Part, Snapshot};
+use am_replica_pieces::{Writer, part_at, pieces_before_head};
 use std::alloc::Global;
 use std::process::Abort;
 

@@ -2,6 +2,7 @@
 
 use am_record::{HashKey, Key, Op, Range, Records, Refusal, Reply, Value};
 use am_replica::Machine;
+use am_replica_records::renew;
 use am_replica_store::ReplicaStore;
 use std::alloc::Global;
 use std::test::Fail;
@@ -96,5 +97,34 @@ fn a_refused_line_does_nothing(rt: HostRuntime) -> Result<(), Fail> {
         ]?
     );
     store.commit()?;
+    Ok(())
+}
+
+#[test]
+fn a_store_made_anew_has_its_records(rt: HostRuntime) -> Result<(), Fail> {
+    let alloc = rt.alloc();
+    let mut store = ReplicaStore::new(alloc, HashKey::known())?;
+    store.run(&vec![in alloc; load(alloc, &[1, 3])?, set(2, b"a")]?)?;
+    store.commit()?;
+    // Loads that are tried make runs too, of which a store has 65,535 in its life: another one takes its place.
+    let tried = vec![in alloc; load(alloc, &[5, 6])?]?;
+    for number in 1..=6 {
+        let told = store.run(&tried)?;
+        assert!(rt; told[0] == Reply::Done);
+        store.abort()?;
+        if number % 2 == 0 {
+            renew(
+                alloc,
+                &mut store,
+                ReplicaStore::new(alloc, HashKey::known())?,
+            )?;
+        }
+    }
+    let told = store.run(&vec![in alloc; get(1), get(2), get(3), get(5)]?)?;
+    assert_eq!(rt;
+        told,
+        vec![in alloc; found(b"l"), found(b"a"), found(b"l"), Reply::Absent]?
+    );
+    store.abort()?;
     Ok(())
 }

@@ -1,6 +1,6 @@
 //! Entries of the replicas' log as bytes, and the bytes that are none.
 
-use am_entries::{Block, Fault, ReadError, Told, entry_text, read_entry};
+use am_replica_entries::{Block, Fault, ReadError, Told, entry_text, read_entry};
 use std::alloc::Global;
 use std::test::Fail;
 

@@ -1,7 +1,7 @@
 //! Replicas: what the log's blocks come to, and what transactions are told before.
 
-use am_model::Plain;
 use am_record::{Key, NoMemory, Op, Reply, Value};
+use am_record_model::Plain;
 use am_replica::{Block, Digest, Machine, Outcome, Replica, Transaction, TrialFault};
 use std::alloc::Global;
 use std::test::Fail;

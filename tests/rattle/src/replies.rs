@@ -1,9 +1,9 @@
 //! The texts of replies.
 
 use crate::keys::{key, value};
+use am_line_sink::StopSink;
+use am_line_wire::{put_reply, reply_text};
 use am_record::{NoMemory, Records, Refusal, Reply};
-use am_sink::StopSink;
-use am_wire::{put_reply, reply_text};
 use std::alloc::Global;
 use std::process::Abort;
 

@@ -1,9 +1,9 @@
 //! What lines ask for.
 
 use crate::keys::{key, range, value};
+use am_line_text::LineFault;
+use am_line_wire::{Request, parse_line};
 use am_record::{Lock, Mode, Op, Records};
-use am_text::LineFault;
-use am_wire::{Request, parse_line};
 use std::alloc::Global;
 use std::process::Abort;
 

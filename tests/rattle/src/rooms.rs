@@ -2,9 +2,9 @@
 
 use crate::entries::{add, byte, dead, live};
 use crate::narrow::Narrow;
-use am_btree::BTree;
 use am_index::{Hint, PartIndex};
-use am_parts::Parts;
+use am_index_btree::BTree;
+use am_index_parts::Parts;
 use am_record::{Entry, HashKey, Key, Value};
 use std::alloc::Global;
 use std::process::Abort;

@@ -1,10 +1,10 @@
 //! Lists of steps.
 
-use am_btree::BTree;
-use am_core::{Store, run};
+use am_index_btree::BTree;
 use am_record::{
     Entry, HashKey, Key, Lock, Mode, NoMemory, Op, Range, Records, Refusal, Reply, Step, Value,
 };
+use am_store::{Store, run};
 use std::alloc::Global;
 use std::process::Abort;
 use std::test::Fail;

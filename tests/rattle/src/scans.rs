@@ -1,12 +1,12 @@
 //! Scans and cursors.
 
 use crate::entries::{add, byte, dead, live, over};
-use am_btree::BTree;
 use am_index::{Hint, PartIndex};
-use am_list_index::ListIndex;
-use am_parts::Parts;
+use am_index_btree::BTree;
+use am_index_list::ListIndex;
+use am_index_parts::Parts;
 use am_record::{Entry, HashKey, Key, NoMemory, Range, Value};
-use am_scan::{Cursor, scan, scan_back};
+use am_store_scan::{Cursor, scan, scan_back};
 use std::alloc::Global;
 use std::process::Abort;
 

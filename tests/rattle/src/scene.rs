@@ -1,14 +1,14 @@
 //! Sessions on one store, line by line.
 
-use am_btree::BTree;
-use am_core::Store;
-use am_dialogue::{
+use am_index_btree::BTree;
+use am_line_dialogue::{
     Action, ActiveSessions, EndAnswer, HoldAnswer, Response, Session, parse, put_response,
 };
+use am_line_sink::StopSink;
+use am_line_source::{LineKind, MAX_LINE_LEN};
+use am_line_wire::reply_text;
 use am_record::{Entry, HashKey, NoMemory};
-use am_sink::StopSink;
-use am_stream::{LineKind, MAX_LINE_LEN};
-use am_wire::reply_text;
+use am_store::Store;
 use std::alloc::Global;
 use std::process::Abort;
 

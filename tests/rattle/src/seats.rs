@@ -1,12 +1,12 @@
 //! Seats of one latch.
 
 use am_audit::check;
-use am_counters::Counters;
-use am_doors::{Door, Doors, House, Limits, Mode, listen_at_port};
-use am_engine::was_refused;
 use am_latch::{Blank, Latch, LatchName, Seat, Taker, close};
+use am_latch_counters::Counters;
+use am_latch_engine::was_refused;
 use am_record::{HashKey, Key, MAX_RUNS, Op, Refusal, Reply, Step, Value};
-use am_session_seat::{assign_seats, take_seats};
+use am_serve_connections::{Endpoint, Endpoints, Lifetime, Limits, SharedState, listen_at_port};
+use am_serve_seat::{assign_seats, take_seats};
 use std::alloc::Global;
 use std::marker::Brand;
 use std::process::Abort;
@@ -127,7 +127,7 @@ fn assigned<L: LatchName, R: Abort>(
     rt: &R,
     alloc: Global,
     blank: Blank,
-    house: &House<'_>,
+    shared: &SharedState<'_>,
 ) -> Result<(), Fail> {
     let (latch, seats, taker) = Latch::<L>::open(blank, HashKey::known())?;
     let (counters, counter_seats) = Counters::open(alloc, 2)?;
@@ -135,10 +135,10 @@ fn assigned<L: LatchName, R: Abort>(
         alloc,
         &latch,
         &counters,
-        &house.turnstile,
-        &house.connections,
-        &house.pacer,
-        house.mode,
+        &shared.turnstile,
+        &shared.connections,
+        &shared.pacer,
+        shared.lifetime,
         seats,
         counter_seats,
     )?;
@@ -154,9 +154,9 @@ fn assigned<L: LatchName, R: Abort>(
 #[test]
 fn the_first_seats_are_the_sessions(rt: HostRuntime) -> Result<(), Fail> {
     let (listener, port) = listen_at_port(&rt, 0)?;
-    let door = Door::Port { listener, port };
-    let doors = Doors {
-        first: &door,
+    let endpoint = Endpoint::Port { listener, port };
+    let endpoints = Endpoints {
+        first: &endpoint,
         second: None,
     };
     let limits = Limits {
@@ -165,17 +165,17 @@ fn the_first_seats_are_the_sessions(rt: HostRuntime) -> Result<(), Fail> {
         hold: 0,
     };
     let is_stopped = AtomicBool::new(false);
-    let house = House::new(
+    let shared = SharedState::new(
         &rt,
         rt.alloc(),
-        doors,
+        endpoints,
         &is_stopped,
         2,
-        Mode::Bounded,
+        Lifetime::Bounded,
         limits,
     )?;
     let blank = Blank::new(rt.alloc(), 3, MAX_RUNS)?;
-    assigned::<Brand, HostRuntime>(&rt, rt.alloc(), blank, &house)
+    assigned::<Brand, HostRuntime>(&rt, rt.alloc(), blank, &shared)
 }
 
 // How each of the seats is answered that begins a transaction.

@@ -1,9 +1,9 @@
 //! Clients of a server, over sockets.
 
-use am_doors::{Door, Limits, Mode};
-use am_keeper::{Counts, Keeping, Watcher};
 use am_record::HashKey;
-use am_server::{ServerTrace, bind};
+use am_serve::{ServerTrace, bind};
+use am_serve_connections::{Endpoint, Lifetime, Limits};
+use am_serve_drain::{DrainSetup, ServerCounts, Watcher};
 use am_trace_writer::LetGo;
 use std::io::{Read, Write};
 use std::net::{Ipv4Addr, Net, Shutdown, TcpListener, TcpStream};
@@ -40,36 +40,46 @@ struct Unwatched;
 impl Watcher for Unwatched {
     ghost saw = { λ _ _ _ _. Unit {0} };
 
-    fn look(&mut self, _counts: &Counts, _is_last: bool) {}
+    fn look(&mut self, _counts: &ServerCounts, _is_last: bool) {}
 }
 
-fn nobody_keeps() -> Keeping<LetGo, Unwatched> {
-    Keeping {
+// Sessions that nothing limits.
+const UNLIMITED: Limits = Limits {
+    idle: None,
+    lapse: None,
+    hold: 0,
+};
+
+fn nobody_looks() -> DrainSetup<LetGo, Unwatched> {
+    DrainSetup {
         pieces: LetGo,
         watcher: Unwatched,
         grace: None,
-        limits: Limits {
-            idle: None,
-            lapse: None,
-            hold: 0,
-        },
     }
 }
 
-fn port_of(door: &Door) -> Option<u16> {
-    match door {
-        Door::Port { port, .. } => Some(*port),
-        Door::Socket { .. } => None,
+fn port_of(endpoint: &Endpoint) -> Option<u16> {
+    match endpoint {
+        Endpoint::Port { port, .. } => Some(*port),
+        Endpoint::Socket { .. } => None,
     }
 }
 
 #[test]
 fn two_clients_beside_a_worker(rt: HostRuntime) -> Result<(), Fail> {
     let bound = bind(&rt, 0).ok().ok_or("no port")?;
-    let port = port_of(bound.door()).ok_or("no port")?;
+    let port = port_of(bound.endpoint()).ok_or("no port")?;
     let (served, said) = thread::join(
         &rt,
-        || bound.serve(&rt, Mode::Bounded, 2, 1, HashKey::known(), nobody_keeps()),
+        || bound.serve(
+            &rt,
+            Lifetime::Bounded,
+            2,
+            1,
+            HashKey::known(),
+            UNLIMITED,
+            nobody_looks(),
+        ),
         || ask_twice(&rt, port),
     );
     let ServerTrace {
@@ -91,7 +101,7 @@ fn two_clients_beside_a_worker(rt: HostRuntime) -> Result<(), Fail> {
 #[test]
 fn a_port_in_use_is_refused(rt: HostRuntime) -> Result<(), Fail> {
     let bound = bind(&rt, 0).ok().ok_or("no port")?;
-    let port = port_of(bound.door()).ok_or("no port")?;
+    let port = port_of(bound.endpoint()).ok_or("no port")?;
     assert!(rt; bind(&rt, port).is_err());
     Ok(())
 }

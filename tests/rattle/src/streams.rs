@@ -1,7 +1,7 @@
 //! Lines, however their bytes come.
 
-use am_sink::{Sink, StopSink};
-use am_stream::{AnsweredSource, Coming, Input, LineBuffer, LineKind, PieceSource, read_line};
+use am_line_sink::{Sink, StopSink};
+use am_line_source::{AnsweredSource, Coming, Input, LineBuffer, LineKind, PieceSource, read_line};
 use std::alloc::Global;
 use std::process::Abort;
 use std::sync::Wait;

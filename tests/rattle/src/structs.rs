@@ -2,7 +2,7 @@
 
 use am_c_steps::{Layout, Status, Structs, structs_asked};
 use am_record::{Key, Value};
-use am_runs::{RecordSource, cut_source};
+use am_store_runs::{RecordSource, cut_source};
 use std::alloc::Global;
 use std::test::Fail;
 
@@ -64,8 +64,8 @@ fn whole_structs_are_read_where_they_lie(rt: HostRuntime) -> Result<(), Fail> {
     let mut runs = cut_source(rt.alloc(), &all, 2).expect(&rt, "memory");
     let first = runs.next(rt.alloc());
     let second = runs.next(rt.alloc());
-    assert!(rt; matches!(&first, Ok(Some(run)) if run.pairs() == [due[1], due[0]].as_slice()));
-    assert!(rt; matches!(&second, Ok(Some(run)) if run.pairs() == [due[2]].as_slice()));
+    assert!(rt; matches!(&first, Ok(Some(run)) if run.records() == [due[1], due[0]].as_slice()));
+    assert!(rt; matches!(&second, Ok(Some(run)) if run.records() == [due[2]].as_slice()));
     assert!(rt; matches!(&runs.next(rt.alloc()), Ok(None)));
     let pairs = structs_asked(rt.alloc(), THREE, 3, &LAYOUT);
     assert!(rt; matches!(&pairs, Ok(pairs) if pairs.as_slice() == due.as_slice()));

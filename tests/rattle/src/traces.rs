@@ -1,10 +1,8 @@
 //! The texts of stored traces.
 
 use am_record::{Key, LAST_RUN, MAX_RUNS, Op, Reply, Step, Value};
-use am_trace_fields::read_by_fields;
-use am_trace_front::front_event;
 use am_trace_print::trace_text;
-use am_trace_read::{TraceFault, read_trace};
+use am_trace_read::{TraceFault, front_event, read_by_fields, read_trace};
 use am_trace_text::{Version, byte_of, digit_of, needs_three};
 
 const STORED: &[u8] = b"TRACE 2

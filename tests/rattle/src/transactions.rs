@@ -1,9 +1,9 @@
 //! The table of active transactions.
 
-use am_locks::Asked;
 use am_record::{Key, Lock, MAX_OPS, Mode, Range};
-use am_tx::TxTable;
-use am_undo::Note;
+use am_store_locks::Asked;
+use am_store_tx::TxTable;
+use am_store_undo::Note;
 use std::process::Abort;
 
 fn exclusive(rt: &impl Abort, lo: u64, hi: u64) -> Lock {

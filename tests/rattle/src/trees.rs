@@ -1,9 +1,9 @@
 //! The tree beside the list, as indexes.
 
 use crate::entries::byte;
-use am_btree::BTree;
 use am_index::{Batch, Hint, PartIndex};
-use am_list_index::ListIndex;
+use am_index_btree::BTree;
+use am_index_list::ListIndex;
 use am_record::{Entry, Key, NoMemory, Range, Value};
 use std::alloc::Global;
 use std::process::Abort;
@@ -19,12 +19,14 @@ fn numbered(part: u32, number: u64) -> Entry {
     }
 }
 
-// Adds the entry, unless its place is taken.
-fn add<I: PartIndex>(index: &mut I, entry: Entry) -> Result<(), NoMemory> {
-    if index.find(entry.part, entry.key).is_none() {
-        index.insert(entry, Hint::none())?;
+/// Adds the entry, unless its place is taken, and says whether it did.
+pub(crate) fn add<I: PartIndex>(index: &mut I, entry: Entry) -> Result<bool, NoMemory> {
+    let (found, hint) = index.look(entry.part, entry.key, Hint::none());
+    let is_new = found.is_none();
+    if is_new {
+        index.insert(entry, hint)?;
     }
-    Ok(())
+    Ok(is_new)
 }
 
 // Takes the entry of the place out, where one stands there.
@@ -285,13 +287,12 @@ fn neighbours_are_taken_out_leaf_by_leaf(rt: HostRuntime) {
 
 fn adds_once<I: PartIndex>(rt: &impl Abort, index: &mut I) {
     let entry = numbered(1, 7);
-    assert!(rt; index.insert_new(entry) == Ok(true));
-    assert!(rt;
-        index.insert_new(Entry {
-            is_ghost: true,
-            ..entry
-        }) == Ok(false)
-    );
+    assert!(rt; add(index, entry) == Ok(true));
+    let other = Entry {
+        is_ghost: true,
+        ..entry
+    };
+    assert!(rt; add(index, other) == Ok(false));
     assert!(rt; index.find(1, entry.key) == Some((entry.value, entry.is_ghost)));
 }
 
@@ -417,7 +418,7 @@ fn thousand_between<I: PartIndex>(rt: &impl Abort, alloc: Global, index: &mut I)
     let mut between: u64 = 0;
     let mut at = 0;
     while at < more.len() {
-        assert!(rt; index.insert_new(more[at]) == Ok(true));
+        assert!(rt; add(index, more[at]) == Ok(true));
         at += 1;
         let to = more.len().min(at + 15);
         let count = index.insert_among(&more[at..to]);

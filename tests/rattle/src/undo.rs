@@ -2,9 +2,9 @@
 
 use crate::entries::{byte, dead, live, over};
 use am_index::{Hint, PartIndex};
-use am_parts::Parts;
+use am_index_parts::Parts;
 use am_record::{Entry, Key, NoMemory};
-use am_undo::{Note, UndoLog};
+use am_store_undo::{Note, UndoLog};
 use std::alloc::Global;
 
 // Makes an entry in partition 0, and notes it, unless the key has one there or is live elsewhere.

@@ -4,8 +4,8 @@ use am_latch::{Blank, Latch, LatchName, Seat, close};
 use am_record::{
     HashKey, Key, Lock, MAX_RUNS, Mode, Op, Range, Records, Refusal, Reply, Step, Value,
 };
-use am_turns::{Pacer, Upkeep};
-use am_workers::run_workers;
+use am_serve_connections::{Pacer, Upkeep};
+use am_serve_workers::run_workers;
 use std::alloc::Global;
 use std::marker::Brand;
 use std::process::Abort;

@@ -1,7 +1,7 @@
 //! Traces that are written as they come.
 
+use am_line_sink::StopSink;
 use am_record::{Reply, Step};
-use am_sink::StopSink;
 use am_trace_text::Version;
 use am_trace_writer::{PieceTaker, TraceWriter};
 use std::test::Fail;

@@ -1,7 +1,7 @@
 use Rattle.std.proofs.Common.{subst, sym, ◌∙◌}
 use Rattle.std.proofs.lemmas.Bool.{false≢true}
 use Rattle.am_record.specs.Asks.{lock_of}
-use Rattle.am_held_locks.specs.HeldLocks.{IsAnswerTo}
+use Rattle.am_audit_locks.specs.HeldLocks.{IsAnswerTo}
 use Rattle.am_audit.proofs.RightReplies.{blocked_wrong, busy_unasked}
 use Rattle.am_audit.proofs.verdict.verdict.Goals as goal
 

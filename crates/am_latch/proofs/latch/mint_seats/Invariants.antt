@@ -1,6 +1,6 @@
 use Rattle.std.proofs.Common.{◌≡◌, ◌≤◌, [], vec_len, vec_capacity}
 use Rattle.am_latch.specs.Receipts.{numbered}
-use Rattle.am_ties.specs.declared.views.View.TheVariants.{Minting}
+use Rattle.am_latch_ties.specs.declared.views.View.TheVariants.{Minting}
 use Rattle.am_latch.proofs.latch.mint_seats.Given as goal
 
 abbrev pub invariant-loop-number : goal.invariant-loop-number

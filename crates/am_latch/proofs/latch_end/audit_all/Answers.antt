@@ -1,5 +1,5 @@
 use Rattle.std.proofs.Common.{rules, ◌∙◌}
-use Rattle.am_ties.specs.Views.{log_in}
+use Rattle.am_latch_ties.specs.Views.{log_in}
 use Rattle.am_latch.proofs.SeatReceipts.{audited_more}
 use Rattle.am_latch.proofs.latch_end.audit_all.Goals as goal
 

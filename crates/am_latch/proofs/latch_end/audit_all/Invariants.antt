@@ -1,6 +1,6 @@
 use Rattle.std.proofs.Common.{◌≡◌}
 use Rattle.am_latch.specs.Receipts.{HaveReceiptsIn}
-use Rattle.am_ties.specs.Views.{log_in}
+use Rattle.am_latch_ties.specs.Views.{log_in}
 use Rattle.am_latch.proofs.latch_end.audit_all.Given as goal
 
 abbrev pub invariant-loop-i : goal.invariant-loop-i

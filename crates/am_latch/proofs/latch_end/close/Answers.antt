@@ -1,17 +1,17 @@
 use Rattle.std.proofs.Common.{rules, ap, sym, ◌≡◌, ◌∙◌, subst, length, true≢false, ℕ, List, take, drop, ◌++◌}
-use Rattle.am_serial.specs.Trace.{Trace}
-use Rattle.am_serial.specs.Legal.{IsLegal}
-use Rattle.am_core.specs.StoreSteps.{IsSoundAt}
-use Rattle.am_sound.specs.Right.{IsSoundStore}
-use Rattle.am_ties.specs.CallLogs.{CallLog}
-use Rattle.am_engine.specs.Traces.{log_of}
-use Rattle.am_latch.specs.Receipts.{SeatState, AreAll, HaveReceiptsIn, AreReceiptsOf, NumberedBelow}
-use Rattle.am_ties.specs.Views.{log_in}
+use Rattle.am_law_serial.specs.Trace.{Trace}
+use Rattle.am_law_serial.specs.Legal.{IsLegal}
+use Rattle.am_store.specs.StoreSteps.{IsSoundAt}
+use Rattle.am_law_sound.specs.Right.{IsSoundStore}
+use Rattle.am_latch_ties.specs.CallLogs.{CallLog}
+use Rattle.am_latch_engine.specs.Traces.{log_of}
+use Rattle.am_latch.specs.Receipts.{SeatState, AreAllSeats, HaveReceiptsIn, AreReceiptsOf, NumberedBelow}
+use Rattle.am_latch_ties.specs.Views.{log_in}
 use Rattle.am_latch.proofs.SeatReceipts.{kept, whole_again}
-use Rattle.am_traced_steps.specs.Changes.{active_in_trace}
+use Rattle.am_latch_engine.specs.Changes.{active_in_trace}
 use Rattle.am_latch.specs.Ties.{SeatsAreTied}
 use Rattle.am_latch.proofs.Opens.{open_is}
-use Rattle.am_ties.specs.HandOutRule.{handed_in}
+use Rattle.am_latch_ties.specs.HandOutRule.{handed_in}
 use Rattle.am_latch.proofs.EngineAndToken.{only}
 use Rattle.am_latch.proofs.latch_end.close.Given.{Over}
 use Rattle.am_latch.proofs.latch_end.close.Goals as goal
@@ -40,7 +40,7 @@ returns-clause-kept g c =
     c.args.seats.items) ≡ c.args.seats.items = whole_again _ _ _ (c.audit_all.ensures.same ∙ old)
     (ap length c.audit_all.ensures.same ∙ c.as_mut_slice.ensures.len) in
     let count : length c.args.seats.items ≡ g.L.LatchName.seats = search rules in
-    let all : AreAll g.L.LatchName.seats c.args.seats.items = (
+    let all : AreAllSeats g.L.LatchName.seats c.args.seats.items = (
       count,
       subst (NumberedBelow c.args.seats.items) count
           (subst (λ (l : List SeatState). NumberedBelow l (length l)) c.as_slice.ensures.value
@@ -63,7 +63,7 @@ returns-clause-open_txs g c =
     c.args.seats.items) ≡ c.args.seats.items = whole_again _ _ _ (c.audit_all.ensures.same ∙ old)
     (ap length c.audit_all.ensures.same ∙ c.as_mut_slice.ensures.len) in
     let count : length c.args.seats.items ≡ g.L.LatchName.seats = search rules in
-    let all : AreAll g.L.LatchName.seats c.args.seats.items = (
+    let all : AreAllSeats g.L.LatchName.seats c.args.seats.items = (
       count,
       subst (NumberedBelow c.args.seats.items) count
           (subst (λ (l : List SeatState). NumberedBelow l (length l)) c.as_slice.ensures.value

@@ -9,11 +9,12 @@ unreachable-requires-in_default-new c =
     let first = ap option_copied (sym c.in-Some-Some.is-0) ∙ c.first.ensures.value in
     let last = ap option_copied (sym c.in-Some-Some.is-1) ∙ c.last.ensures.value in
     false≢true (subst IsSome c.in_default-new.is (c.new.ensures.ordered.1
-    (ordered c.args.pairs.now c.in-Some-Some.first.now c.in-Some-Some.last.now c.requires first last)))
+    (ordered c.args.records.now c.in-Some-Some.first.now c.in-Some-Some.last.now c.requires first last)))
 
 pub returns : goal.returns
 returns c =
     let first = ap option_copied (sym c.in-Some-Some.is-0) ∙ c.first.ensures.value in
     let last = ap option_copied (sym c.in-Some-Some.is-1) ∙ c.last.ensures.value in
-    c.in-Some.ensures.value ∙ spanned c.args.pairs.now c.in-Some-Some.first.now c.in-Some-Some.last.now c.requires first
+    c.in-Some.ensures.value ∙ spanned c.args.records.now c.in-Some-Some.first.now c.in-Some-Some.last.now c.requires
+    first
     last

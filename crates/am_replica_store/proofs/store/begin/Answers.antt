@@ -1,7 +1,7 @@
 use Rattle.std.proofs.Common.{[], ◌∷◌, IfOk, subst, sym}
 use Rattle.am_record.specs.declared.step.Reply.{Reply}
 use Rattle.am_record.specs.declared.step.Step.TheVariants.{Begin}
-use Rattle.am_core.specs.StoreSteps.{Extends}
+use Rattle.am_store.specs.StoreSteps.{Extends}
 use Rattle.am_replica_store.specs.Alone.{draft_map, IsInside}
 use Rattle.am_replica_store.proofs.Alone.{begun_inside}
 use Rattle.am_replica_store.proofs.store.begin.Goals as goal

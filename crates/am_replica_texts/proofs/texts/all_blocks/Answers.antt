@@ -1,6 +1,6 @@
 use Rattle.std.proofs.Common.{◌+◌, ◌<◌, ◌∷◌, [], ◌++◌, take, length, arith, sym, subst, Err, ap, ◌∙◌}
 use Rattle.std.proofs.lemmas.Result.{err_from_is_err_and}
-use Rattle.am_entries.specs.Texts.{view, views}
+use Rattle.am_replica_entries.specs.Texts.{view, views}
 use Rattle.am_replica_texts.specs.Entries.{AreBlocksOf}
 use Rattle.am_replica_texts.proofs.Entries.{blocks_push, none_at, one_more_view, err_is_one}
 use Rattle.am_replica_texts.proofs.texts.all_blocks.Goals as goal

@@ -1,5 +1,5 @@
 use Rattle.std.proofs.Common.{take}
-use Rattle.am_entries.specs.Texts.{views}
+use Rattle.am_replica_entries.specs.Texts.{views}
 use Rattle.am_replica_texts.specs.Entries.{AreBlocksOf}
 use Rattle.am_replica_texts.proofs.texts.all_blocks.Given as goal
 

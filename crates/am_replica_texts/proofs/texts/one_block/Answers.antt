@@ -1,5 +1,5 @@
 use Rattle.std.proofs.Common.{Err, ap, ◌∙◌}
-use Rattle.am_entries.specs.Texts.{view}
+use Rattle.am_replica_entries.specs.Texts.{view}
 use Rattle.am_replica_texts.proofs.Entries.{other_line, left_waiting}
 use Rattle.am_replica_texts.proofs.texts.one_block.Goals as goal
 

@@ -1,7 +1,7 @@
 use Rattle.std.proofs.Common.{refl, sym, ap, ◌∙◌}
 use Rattle.std.proofs.lemmas.Bool.{false≢true}
 use Rattle.std.specs.Prelude.{map}
-use Rattle.am_replies.specs.OwnAnswers.{listed, is_listed}
+use Rattle.am_audit_replies.specs.OwnAnswers.{listed, is_listed}
 use Rattle.am_audit.proofs.EventSteps.{takes_still, abort_nothing, is_active, is_owned, takes_abort}
 use Rattle.am_audit.proofs.checker.Checker.abort.Goals as goal
 

@@ -1,7 +1,7 @@
 use Rattle.std.proofs.Common.{◌≡◌, [], ◌∷◌, ◌++◌, map, refl, ap, ◌∙◌}
 use Rattle.std.proofs.lemmas.Bool.{false≢true}
 use Rattle.std.proofs.lemmas.List.{map-append}
-use Rattle.am_replies.specs.OwnAnswers.{Listed, listed}
+use Rattle.am_audit_replies.specs.OwnAnswers.{Listed, listed}
 use Rattle.am_audit.proofs.EventSteps.{takes_still, begin_nothing, may_begin_with, has_room, is_new, takes_begin}
 use Rattle.am_audit.proofs.checker.Checker.begin.Goals as goal
 

@@ -2,7 +2,7 @@ use Rattle.std.proofs.Common.{◌≡◌, ℕ, Bool, refl, sym, ap, ◌∙◌}
 use Rattle.std.proofs.lemmas.Bool.{false≢true}
 use Rattle.am_record.specs.declared.step.Op.{Op}
 use Rattle.am_record.specs.declared.step.Reply.{Reply}
-use Rattle.am_serial.specs.Machine.{State, is_full, due_early}
+use Rattle.am_law_serial.specs.Machine.{State, is_full, due_early}
 use Rattle.am_audit.proofs.RightReplies.{early_right, early_wrong, early_unasked}
 use Rattle.am_audit.proofs.EventSteps.{takes_still, refused_nothing}
 use Rattle.am_audit.proofs.Bodies.{counted, not_counted}

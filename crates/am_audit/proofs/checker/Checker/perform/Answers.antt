@@ -1,10 +1,10 @@
 use Rattle.std.proofs.Common.{rules, arith, ◌<◌, ◌≡◌, refl, sym, ap, ◌∙◌, ◌+◌, map}
 use Rattle.std.specs.Prelude.{◌^◌}
 use Rattle.std.proofs.lemmas.Result.{on_ok_weaker}
-use Rattle.am_serial.specs.Trace.{runs_made}
-use Rattle.am_serial.specs.Machine.{view}
-use Rattle.am_replies.specs.OwnAnswers.{listed, with_own}
-use Rattle.am_replies.proofs.Actives.{items_kept}
+use Rattle.am_law_serial.specs.Trace.{runs_made}
+use Rattle.am_law_serial.specs.Machine.{view}
+use Rattle.am_audit_replies.specs.OwnAnswers.{listed, with_own}
+use Rattle.am_audit_replies.proofs.Actives.{items_kept}
 use Rattle.am_audit.proofs.Bodies.{listed_open}
 use Rattle.am_audit.proofs.Performs.{takes_refused, takes_answer, made_fits, made_by, open_of_none}
 use Rattle.am_audit.proofs.checker.Checker.perform.Goals as goal

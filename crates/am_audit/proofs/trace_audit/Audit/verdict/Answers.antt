@@ -1,6 +1,6 @@
 use Rattle.std.proofs.Common.{◌≡◌, length, subst}
-use Rattle.am_serial.specs.Legal.{IsLegal}
-use Rattle.am_serial.specs.Trace.{committers, effects}
+use Rattle.am_law_serial.specs.Legal.{IsLegal}
+use Rattle.am_law_serial.specs.Trace.{committers, effects}
 use Rattle.am_audit.proofs.Checks.{is_legal, told_fault}
 use Rattle.am_audit.proofs.trace_audit.Audit.verdict.Goals as goal
 

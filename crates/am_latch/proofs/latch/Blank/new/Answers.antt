@@ -1,5 +1,5 @@
-use Rattle.am_ties.proofs.Rules.{starts}
-use Rattle.am_ties.proofs.RuleSteps.{starts as none_taken}
+use Rattle.am_latch_ties.proofs.Rules.{starts}
+use Rattle.am_latch_ties.proofs.RuleSteps.{starts as none_taken}
 use Rattle.am_latch.proofs.latch.Blank.new.Goals as goal
 
 pub of_words-requires : goal.of_words-requires

@@ -2,14 +2,14 @@ use Rattle.std.proofs.Common.{rules, arith, length, length-append, ap, sym, subs
 use Rattle.std.proofs.Common.{◌++◌, ◌≤◌, Option, None, IfSome, vec_len, vec_capacity, refl}
 use Rattle.atomic_table.specs.Table.{Me}
 use Rattle.am_record.specs.Sessions.{IsAllowed}
-use Rattle.am_traced_steps.specs.Changes.{change, end_of, open_after}
-use Rattle.am_engine.specs.declared.change.Stored.{Stored}
-use Rattle.am_ties.specs.declared.receipt.Receipt.{Receipt}
-use Rattle.am_ties.specs.declared.views.View.{View}
-use Rattle.am_ties.specs.Receipts.{receipt}
+use Rattle.am_latch_engine.specs.Changes.{change, end_of, open_after}
+use Rattle.am_latch_engine.specs.declared.change.Stored.{Stored}
+use Rattle.am_latch_ties.specs.declared.receipt.Receipt.{Receipt}
+use Rattle.am_latch_ties.specs.declared.views.View.{View}
+use Rattle.am_latch_ties.specs.Receipts.{receipt}
 use Rattle.am_latch.specs.Receipts.{SeatState, moved_in, last_commit_of, positions_of, AreBehind}
-use Rattle.am_ties.specs.Views.{seat_in, IsSeatView}
-use Rattle.am_latch.specs.Ties.{open_of, HasRoom, receipts_kept, receipts_needed, receipt_room}
+use Rattle.am_latch_ties.specs.Views.{seat_in, IsSeatView}
+use Rattle.am_latch.specs.Ties.{open_of, HasRoomForReceipt, receipts_kept, receipts_needed, receipt_room}
 use Rattle.am_latch.proofs.CallResults.{told_of, where_true, received, last_commit-snoc, behind-snoc}
 use Rattle.am_latch.proofs.Seats.{room_after, wider, moved_in-snoc}
 use Rattle.am_latch.proofs.SeatTransactions.{open_from-snoc}
@@ -62,7 +62,7 @@ invariant_of-self-2 g c =
     subst (λ o. IfSome o (λ _. receipt_room needed ≤ vec_capacity c.prepare.new.positions)) c.in-Some.is q.got in
     let fits = enough needed in
     let kept = kept_after c.self.inside.open_now st r may c.call-outcome.ensures.ended in
-    let here : HasRoom (open_after c.self.inside.open_now (change st r)) (vec_len old + 1)
+    let here : HasRoomForReceipt (open_after c.self.inside.open_now (change st r)) (vec_len old + 1)
     (vec_capacity c.prepare.new.positions) = room_after c.self.inside.open_now st r (vec_len old)
     (vec_capacity c.prepare.new.positions) may c.call-outcome.ensures.ended (wider _ _ _ _ i.room q.kept)
     (omega (arith, got, fits, q.long)) few in
@@ -81,7 +81,7 @@ invariant_of-self-2 g c =
       open_tx = now ∙ ap (λ (o : Option ℕ). open_after o (change st r)) i.open_tx ∙ sym (open_from-snoc None rs x) ∙
           ap open_of (sym more);
       last = c.commit_by-self-inside.ensures ∙ sym (last_commit-snoc rs x) ∙ ap last_commit_of (sym more);
-      room = subst (λ (y : Option ℕ × ℕ × ℕ). HasRoom y.0 y.1 y.2)
+      room = subst (λ (y : Option ℕ × ℕ × ℕ). HasRoomForReceipt y.0 y.1 y.2)
           (λ j. (sym now j, (ap (λ (n : ℕ). n + 1) (sym q.long) ∙ sym p.len) j, sym p.capacity j)) here;
       got = subst (λ (y : Option ℕ × ℕ × ℕ). receipt_room (y.1 + receipts_kept y.0) ≤ y.2)
           (λ j. (sym now j, (ap (λ (n : ℕ). n + 1) (sym q.long) ∙ sym p.len) j, sym p.capacity j)) left;

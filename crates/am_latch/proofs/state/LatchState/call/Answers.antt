@@ -1,14 +1,14 @@
 use Rattle.am_record.specs.Sessions.{IsAllowed}
 use Rattle.std.proofs.Common.{rules, ap, sym, subst, ◌≡◌, ◌∙◌, [], ◌∷◌, List, length}
-use Rattle.am_ties.specs.declared.receipt.Receipt.{Receipt}
-use Rattle.am_ties.specs.CallLogs.{CallLog, log_with}
-use Rattle.am_engine.specs.Traces.{log_of, AreMadeBelow}
-use Rattle.am_ties.specs.Receipts.{receipts_of}
+use Rattle.am_latch_ties.specs.declared.receipt.Receipt.{Receipt}
+use Rattle.am_latch_ties.specs.CallLogs.{CallLog, log_with}
+use Rattle.am_latch_engine.specs.Traces.{log_of, AreMadeBelow}
+use Rattle.am_latch_ties.specs.Receipts.{receipts_of}
 use Rattle.am_latch.specs.Ties.{open_of, open_in, AreNumbered, IsTied}
-use Rattle.am_ties.specs.declared.taker_tie.TakenView.TheVariants.{Handed}
-use Rattle.am_ties.specs.Views.{seat_in, log_in}
-use Rattle.am_ties.specs.declared.views.View.{View}
-use Rattle.am_ties.specs.declared.views.View.TheVariants.{Log}
+use Rattle.am_latch_ties.specs.declared.taker_tie.TakenView.TheVariants.{Handed}
+use Rattle.am_latch_ties.specs.Views.{seat_in, log_in}
+use Rattle.am_latch_ties.specs.declared.views.View.{View}
+use Rattle.am_latch_ties.specs.declared.views.View.TheVariants.{Log}
 use Rattle.am_latch.proofs.EngineAndToken.{grown, below-snoc, numbered-snoc, receipts_long, only}
 use Rattle.am_latch.proofs.SeatTransactions.{tied_more, ends_active}
 use Rattle.am_latch.proofs.CallResults.{is_stored_where}

@@ -1,6 +1,6 @@
 use Rattle.std.proofs.Common.{◌≡◌, ◌++◌, ◌∙◌, ap, sym, rules, subst, append_assoc, true}
 use Rattle.std.proofs.lemmas.List.{take-append-drop}
-use Rattle.am_serial.specs.Trace.{Trace}
+use Rattle.am_law_serial.specs.Trace.{Trace}
 use Rattle.am_trace_writer.specs.Writers.{TookLines}
 use Rattle.am_trace_writer.specs.WriterLaws.{took_lines_of_both, still_cut}
 use Rattle.am_trace_writer.proofs.trace_writer.TraceWriter.write_all.Goals as goal

@@ -1,5 +1,5 @@
 use Rattle.std.proofs.Common.{◌≡◌, ◌++◌, length}
-use Rattle.am_serial.specs.Trace.{Trace}
+use Rattle.am_law_serial.specs.Trace.{Trace}
 use Rattle.am_trace_writer.specs.Writers.{TookLines}
 use Rattle.am_trace_writer.proofs.trace_writer.TraceWriter.write_all.Given as goal
 

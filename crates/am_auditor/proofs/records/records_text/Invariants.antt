@@ -1,6 +1,0 @@
-use Rattle.std.proofs.Common.{◌≡◌, take}
-use Rattle.am_auditor.specs.Judgements.{records_text}
-use Rattle.am_auditor.proofs.records.records_text.Given as goal
-
-abbrev pub invariant-loop-pair : goal.invariant-loop-pair
-invariant-loop-pair l = l.text.items ≡ records_text (take l.pair-index l.records)

@@ -1,4 +1,0 @@
-use Rattle.am_command.proofs.stack.+reached.Given as goal
-
-abbrev pub decreases-reached : goal.decreases-reached
-decreases-reached l = l.pages

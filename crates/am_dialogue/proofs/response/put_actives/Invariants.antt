@@ -1,9 +1,0 @@
-use Rattle.std.proofs.Common.{Ok, take}
-use Rattle.am_sink.specs.SinkWrites.{Wrote}
-use Rattle.am_dialogue.specs.Responses.{actives_words}
-use Rattle.am_dialogue.proofs.response.put_actives.Given as goal
-
-abbrev pub invariant-loop-session : goal.invariant-loop-session
-invariant-loop-session g l =
-    Wrote {A = Unit {0}} g.K.Sink.holds g.K.Sink.failures l.fn.sink
-    (actives_words (take l.session-index l.sessions)) (Ok tt) l.sink

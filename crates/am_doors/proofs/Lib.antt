@@ -1,6 +1,0 @@
-pub mod HttpLines
-pub mod HttpEnds
-pub mod Requests
-pub mod GateOrders
-pub mod TurnOrders
-pub mod PassedLines

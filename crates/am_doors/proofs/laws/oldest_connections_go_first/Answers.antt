@@ -1,5 +1,0 @@
-use Rattle.am_doors.proofs.GateOrders.{leave_in_order, nobody_waits}
-use Rattle.am_doors.proofs.laws.oldest_connections_go_first.Goals as goal
-
-pub returns : goal.returns
-returns c = record { order = leave_in_order; seats = nobody_waits }

@@ -1,5 +1,0 @@
-use Rattle.am_doors.proofs.Requests.{requests_are_seen}
-use Rattle.am_doors.proofs.laws.requests_are_seen.Goals as goal
-
-pub returns : goal.returns
-returns c = requests_are_seen

@@ -1,6 +1,0 @@
-use Rattle.std.proofs.Common.{arith}
-use Rattle.am_doors.proofs.HttpLines.{kept_bytes}
-use Rattle.am_doors.proofs.unended_line.UnendedLine.add.Goals as goal
-
-pub returns : goal.returns
-returns c = grind (arith, kept_bytes)

@@ -1,5 +1,0 @@
-use Rattle.am_effect.proofs.KnownEdits.{known_laws}
-use Rattle.am_effect.proofs.laws.edits_are_known.Goals as goal
-
-pub returns : goal.returns
-returns c = known_laws

@@ -1,4 +1,0 @@
-use Rattle.am_held_locks.proofs.held_locks.HeldLocks.look.Given as goal
-
-abbrev pub ghost-look : goal.ghost-look
-ghost-look g a = g.txs

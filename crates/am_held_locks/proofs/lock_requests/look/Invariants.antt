@@ -1,4 +1,0 @@
-use Rattle.am_held_locks.proofs.lock_requests.look.Given as goal
-
-abbrev pub ghost-ask : goal.ghost-ask
-ghost-ask g a = g.txs

@@ -1,0 +1,352 @@
+-- Entries put among others of a child.
+use Rattle.std.proofs.Common.{◌≡◌, ◌≢◌, ℕ, zero, suc, ◌+◌, ◌<◌, List, [], ◌∷◌, ◌++◌, length, get_or, set, take, drop}
+use Rattle.std.proofs.Common.{true, Option, None, Some, refl, sym, ap, ◌∙◌, subst, length-set, length-drop, arith}
+use Rattle.std.proofs.Common.{⊎_elim}
+use Rattle.std.proofs.Common.{inl, inr}
+use Rattle.std.specs.Borrow.{Bor}
+use Rattle.std.specs.Prelude.{not, ◌⊎◌, ◌≤◌, slice_get, option_copied, IsSome}
+use Rattle.std.proofs.lemmas.Option.{slice_get_cases}
+use Rattle.am_record.specs.OrderedKey.{OrderedKey}
+use Rattle.std.proofs.lemmas.List.{length-take-le, drop_all}
+use Rattle.std.specs.declared.cmp.Ordering.{Ordering}
+use Rattle.std.specs.declared.cmp.Ordering.TheVariants.{Less, Equal, Greater}
+use Rattle.std.specs.Ordering.{is_le, ordering_reverse}
+use Rattle.std.specs.Option.{option_map, option_or}
+use Rattle.std.specs.List.{AllByRecursion}
+use Rattle.am_record.specs.declared.entry.Entry.{Entry}
+use Rattle.am_record.specs.EntryOrder.{Place, place_of, place_cmp, place_cmp-total}
+use Rattle.am_record.proofs.Lists.{AllByRecursion-map, AllByRecursion-back, AllByRecursion-take, AllByRecursion-drop}
+use Rattle.am_record.proofs.Lists.{AllByRecursion-at}
+use Rattle.am_record.proofs.PlaceOrder.{turned_less, turned_greater, below_same}
+use Rattle.am_index.specs.Entries.{Slot, slot_of, entry_at, find, insert_entry, all_inserted, IsRising}
+use Rattle.am_index.specs.Places.{AllBelow, NoneBelow, AllAbove, IsGapFor}
+use Rattle.am_index.proofs.Insertions.{AllFree, free_before, all_of_both, rising_all_inserted}
+use Rattle.am_index.proofs.Lists.{entry_at-append, below_itself, rising_back, rising_remove}
+use Rattle.am_index_btree.specs.declared.separator.Separator.{Separator}
+use Rattle.am_index_btree.specs.EntriesBetween.{is_below, IsFrom, GoesAmong}
+use Rattle.am_index_btree.specs.Shape.{Shape}
+use Rattle.am_index_btree.specs.Rooms.{IsRoomed}
+use Rattle.am_index_btree.specs.Separators.{separator_place, SeparatorsRise}
+use Rattle.am_index_btree.specs.Nodes.{all_entries, depth_of, AreParted, IsInner}
+use Rattle.am_index_btree.proofs.Children.{entry_at-front}
+use Rattle.am_index_btree.proofs.ChildEdits.{all_set}
+use Rattle.am_index_btree.proofs.ChildInserts.{none_below_above, insert_entry-front, insert_entry-back, insert_some}
+use Rattle.am_index_btree.proofs.Inner.{as_many}
+use Rattle.am_index_btree.proofs.ChildHalves.{all_both, all_in_each, all_entries_cut, depth_level, inner_with}
+use Rattle.am_index_btree.proofs.ChildHalves.{separators_apart}
+use Rattle.am_index_btree.proofs.ChildHalves.{separators_rise, some_entries, parted_cut, get_dropped, AreParted-drop}
+
+-- each goes among the entries, below the bound
+abbrev pub AreAmong : List Entry → Option Separator → List Entry → Type 0
+AreAmong es bound xs = AllByRecursion (GoesAmong es bound) xs
+
+-- what is below a place is below each that isn't below that one
+below_from : (x b m : Place) → place_cmp x b ≡ Less → place_cmp m b ≢ Less → place_cmp x m ≡ Less
+below_from x b m h n = by (place_cmp m b) refl
+  where
+    turned : place_cmp b m ≡ ordering_reverse (place_cmp m b)
+    turned = place_cmp-total.antisymm b m
+
+    by : (o : Ordering) → place_cmp m b ≡ o → place_cmp x m ≡ Less
+    by Less e = absurd (n e)
+    by Equal e = below_same x b m h (turned ∙ ap ordering_reverse e)
+    by Greater e = place_cmp-total.trans x b m h (turned ∙ ap ordering_reverse e)
+
+not_reached : (o : Ordering) → not (is_le o) ≡ true → o ≡ Greater
+not_reached Less h = absurd (cc h)
+not_reached Equal h = absurd (cc h)
+not_reached Greater h = refl
+
+below_bound : (bound : Option Separator) (x : Entry) (m : Place) → is_below bound x ≡ true → IsFrom bound m →
+    place_cmp (place_of x) m ≡ Less
+below_bound None x m low from = absurd from
+below_bound (Some b) x m low from = below_from (place_of x) (separator_place b) m
+    (turned_greater (separator_place b) (place_of x) (not_reached _ low)) from
+
+-- what goes after some entries of a list, and before others or below the bound, goes among them
+pub among_gap : (es : List Entry) (bound : Option Separator) (x : Entry) (i : ℕ) → IsGapFor es x.part x.key i → 0 < i →
+    (i < length es) ⊎ (is_below bound x ≡ true) → GoesAmong es bound x
+among_gap es bound x i gap some end = record {
+  above = λ l none. separators_apart l (place_of x) (take i es)
+      (omega (arith, some, length-take-le i es gap.in_range))
+      (AllByRecursion-take (λ e. place_cmp (place_of e) l ≢ Less) i es none) gap.below;
+  below = λ m all from. ⊎_elim
+      (λ (lt : i < length es). separators_apart (place_of x) m (drop i es) (omega (arith, lt, length-drop i es))
+      (none_below_above (place_of x) (drop i es) gap.above)
+      (AllByRecursion-drop (λ e. place_cmp (place_of e) m ≡ Less) i es all))
+      (λ low. below_bound bound x m low from) end;
+}
+
+-- ---- what such entries keep
+
+module _ (es : List Entry) (bound : Option Separator) (xs : List Entry) (among : AreAmong es bound xs) where
+  pub none_below_among : (l : Place) → NoneBelow l es → NoneBelow l (all_inserted xs es)
+  none_below_among l none = all_of_both (λ e. place_cmp (place_of e) l ≢ Less) xs es
+      (AllByRecursion-map (GoesAmong es bound) (λ e. place_cmp (place_of e) l ≢ Less)
+      (λ x b less. absurd (cc (turned_less l (place_of x) (b.above l none)))) xs among) none
+
+  pub all_below_among : (m : Place) → AllBelow m es → IsFrom bound m → AllBelow m (all_inserted xs es)
+  all_below_among m all from = all_of_both (λ e. place_cmp (place_of e) m ≡ Less) xs es
+      (AllByRecursion-map (GoesAmong es bound) (λ e. place_cmp (place_of e) m ≡ Less) (λ x b. b.below m all from) xs
+      among) all
+
+  -- what goes among them goes among those that were there
+  pub among_further : (x : Entry) → GoesAmong (all_inserted xs es) bound x → GoesAmong es bound x
+  among_further x b = record {
+    above = λ l none. b.above l (none_below_among l none);
+    below = λ m all from. b.below m (all_below_among m all from) from;
+  }
+
+pub some_inserted : (xs es : List Entry) → 0 < length es → 0 < length (all_inserted xs es)
+some_inserted [] es some = some
+some_inserted (x ∷ xs) es some = some_inserted xs (insert_entry es x) (insert_some es x)
+
+-- ---- a list that goes on before and after
+
+inserted_front : (xs es ys : List Entry) → AllByRecursion (λ x. AllAbove (place_of x) ys) xs →
+    all_inserted xs (es ++ ys) ≡ all_inserted xs es ++ ys
+inserted_front [] es ys above = refl
+inserted_front (x ∷ xs) es ys above = ap (all_inserted xs) (insert_entry-front x es ys above.0) ∙
+    inserted_front xs (insert_entry es x) ys above.1
+
+inserted_back : (xs ws es : List Entry) → AllByRecursion (λ x. AllBelow (place_of x) ws) xs →
+    all_inserted xs (ws ++ es) ≡ ws ++ all_inserted xs es
+inserted_back [] ws es below = refl
+inserted_back (x ∷ xs) ws es below = ap (all_inserted xs) (insert_entry-back x ws es below.0) ∙
+    inserted_back xs ws (insert_entry es x) below.1
+
+each_above : (es ys : List Entry) → IsRising (es ++ ys) → AllByRecursion (λ y. AllBelow (place_of y) es) ys
+each_above es [] rising = tt
+each_above es (y ∷ ys) rising = (below_itself es y ys rising, each_above es ys (rising_remove es y ys rising))
+
+-- entries from the bound on
+abbrev AreFrom : Option Separator → List Entry → Type 0
+AreFrom bound ys = AllByRecursion (λ y. IsFrom bound (place_of y)) ys
+
+-- those after, from the bound on, are above what goes among the others
+above_among : (es ys : List Entry) (bound : Option Separator) (x : Entry) → IsRising (es ++ ys) → AreFrom bound ys →
+    GoesAmong es bound x → AllAbove (place_of x) ys
+above_among es ys bound x rising from b =
+    all_both (λ y. AllBelow (place_of y) es) (λ y. IsFrom bound (place_of y))
+    (λ y. place_cmp (place_of y) (place_of x) ≡ Greater)
+    (λ y below out. turned_less (place_of x) (place_of y) (b.below (place_of y) below out)) ys
+    (each_above es ys rising) from
+
+-- and those before are below it
+below_among : (ws es : List Entry) (x : Entry) → IsRising (ws ++ es) →
+    ((l : Place) → NoneBelow l es → place_cmp l (place_of x) ≡ Less) → AllBelow (place_of x) ws
+below_among [] es x rising above = tt
+below_among (w ∷ ws) es x rising above = (
+  above (place_of w)
+      (AllByRecursion-map (λ e. place_cmp (place_of w) (place_of e) ≡ Less)
+      (λ e. place_cmp (place_of e) (place_of w) ≢ Less)
+      (λ e lt less. absurd (cc (turned_less (place_of w) (place_of e) lt))) es
+      (AllByRecursion-back (λ e. place_cmp (place_of w) (place_of e) ≡ Less) ws es rising.0)),
+  below_among ws es x rising.1 above,
+)
+
+-- ---- one of a node's children
+
+-- what holds of all entries holds of the child's
+of_child : (P : Entry → Type 0) (ks : List Shape) (i : ℕ) (k : Shape) → i < length ks → k ≡ get_or ks i k →
+    AllByRecursion P (all_entries ks) → AllByRecursion P k.entries
+of_child P ks i k lt here all = subst (λ (s : Shape). AllByRecursion P s.entries) (sym here)
+    (AllByRecursion-at (λ (s : Shape). AllByRecursion P s.entries) ks i k (all_in_each P ks all) lt)
+
+above_up : (ks : List Shape) (i : ℕ) (k : Shape) → i < length ks → k ≡ get_or ks i k → (end : Option Separator)
+    (x : Entry) → GoesAmong k.entries end x → (l : Place) → NoneBelow l (all_entries ks) →
+    place_cmp l (place_of x) ≡ Less
+above_up ks i k lt here end x b l none = b.above l (of_child (λ e. place_cmp (place_of e) l ≢ Less) ks i k lt here none)
+
+found_among : (ks : List Shape) (i : ℕ) (k : Shape) → i < length ks → k ≡ get_or ks i k → IsRising (all_entries ks) →
+    (end : Option Separator) → AreFrom end (all_entries (drop (suc i) ks)) → (x : Entry) → GoesAmong k.entries end x →
+    entry_at (all_entries ks) x.part x.key ≡ entry_at k.entries x.part x.key
+found_among [] i k lt here rising end from x b = absurd (omega arith)
+found_among (c ∷ ks) zero k lt here rising end from x b =
+    let there = subst (λ (s : Shape). GoesAmong s.entries end x) here b in
+    entry_at-front x.part x.key c.entries (all_entries ks) (above_among c.entries (all_entries ks) end x rising from
+    there) ∙
+    ap (λ (s : Shape). entry_at s.entries x.part x.key) (sym here)
+found_among (c ∷ ks) (suc i) k lt here rising end from x b =
+    entry_at-append x.part x.key c.entries (all_entries ks)
+    (below_among c.entries (all_entries ks) x rising (above_up ks i k (omega arith) here end x b)) ∙
+    found_among ks i k (omega arith) here (rising_back c.entries (all_entries ks) rising) end from x b
+
+entries_among : (ks : List Shape) (i : ℕ) (k k' : Shape) → i < length ks → k ≡ get_or ks i k →
+    IsRising (all_entries ks) → (end : Option Separator) → AreFrom end (all_entries (drop (suc i) ks)) →
+    (xs : List Entry) → AreAmong k.entries end xs → k'.entries ≡ all_inserted xs k.entries →
+    all_entries (set ks i k') ≡ all_inserted xs (all_entries ks)
+entries_among [] i k k' lt here rising end from xs among h = absurd (omega arith)
+entries_among (c ∷ ks) zero k k' lt here rising end from xs among h =
+    ap (λ es. es ++ all_entries ks) (h ∙ ap (λ (s : Shape). all_inserted xs s.entries) here) ∙
+    sym (inserted_front xs c.entries (all_entries ks)
+    (AllByRecursion-map (GoesAmong k.entries end) (λ x. AllAbove (place_of x) (all_entries ks))
+    (λ x b. above_among c.entries (all_entries ks) end x rising from
+    (subst (λ (s : Shape). GoesAmong s.entries end x) here b)) xs among))
+entries_among (c ∷ ks) (suc i) k k' lt here rising end from xs among h =
+    ap (λ es. c.entries ++ es) (entries_among ks i k k' (omega arith) here
+    (rising_back c.entries (all_entries ks) rising) end from xs among h) ∙
+    sym (inserted_back xs c.entries (all_entries ks)
+    (AllByRecursion-map (GoesAmong k.entries end) (λ x. AllBelow (place_of x) c.entries)
+    (λ x b. below_among c.entries (all_entries ks) x rising (above_up ks i k (omega arith) here end x b)) xs among))
+
+parted_among : (ls : List Separator) (ks : List Shape) (i : ℕ) (k k' : Shape) → AreParted ls ks → i < length ks →
+    k ≡ get_or ks i k → (end : Option Separator) →
+    AllByRecursion (λ m. IsFrom end (separator_place m)) (drop (suc i) ls) → (xs : List Entry) →
+    AreAmong k.entries end xs → k'.entries ≡ all_inserted xs k.entries → AreParted ls (set ks i k')
+parted_among ls [] i k k' a lt here end from xs among h = absurd (omega arith)
+parted_among [] (c ∷ ks) i k k' a lt here end from xs among h = absurd (omega (arith, a))
+parted_among (l ∷ ls) (c ∷ ks) zero k k' a lt here end from xs among h =
+    let own : NoneBelow (separator_place l) k.entries =
+    subst (λ (s : Shape). NoneBelow (separator_place l) s.entries) (sym here) a.0 in
+    let later : AllByRecursion (λ m. AllBelow (separator_place m) k.entries) ls =
+    subst (λ (s : Shape). AllByRecursion (λ m. AllBelow (separator_place m) s.entries) ls) (sym here) a.1 in (
+      subst (NoneBelow (separator_place l)) (sym h) (none_below_among k.entries end xs among (separator_place l) own),
+      all_both (λ m. AllBelow (separator_place m) k.entries) (λ m. IsFrom end (separator_place m))
+          (λ m. AllBelow (separator_place m) k'.entries)
+          (λ m b out. subst (AllBelow (separator_place m)) (sym h)
+          (all_below_among k.entries end xs among (separator_place m) b out)) ls later from,
+      a.2,
+    )
+parted_among (l ∷ ls) (c ∷ ks) (suc i) k k' a lt here end from xs among h =
+    (a.0, a.1, parted_among ls ks i k k' a.2 (omega arith) here end from xs among h)
+
+-- ---- where a child ends
+
+-- what follows the child lies from its bound on, and so does what lies after all of the node and from its bound on
+pub record IsEnd (ls : List Separator) (ks : List Shape) (i : ℕ) (bound end : Option Separator) : Type 0 where
+  entries : AreFrom end (all_entries (drop (suc i) ks))
+  separators : AllByRecursion (λ m. IsFrom end (separator_place m)) (drop (suc i) ls)
+  outer : (m : Place) → AllBelow m (all_entries ks) → IsFrom bound m → IsFrom end m
+
+from_first : (ls : List Separator) (s : Separator) → s ≡ get_or ls 0 s → SeparatorsRise ls →
+    AllByRecursion (λ m. IsFrom (Some s) (separator_place m)) ls
+from_first [] s here rise = tt
+from_first (l ∷ ls) s here rise = subst (λ (x : Separator). AllByRecursion (λ m. IsFrom (Some x) (separator_place m))
+    (l ∷ ls)) (sym here) (
+      (λ less. absurd (cc (turned_less (separator_place l) (separator_place l) less, less))),
+      AllByRecursion-map (λ m. place_cmp (separator_place l) (separator_place m) ≡ Less)
+          (λ m. place_cmp (separator_place m) (separator_place l) ≢ Less)
+          (λ m up less. absurd (cc (turned_less (separator_place l) (separator_place m) up, less))) ls rise.0,
+    )
+
+module _ (ls : List Separator) (ks : List Shape) (rk : ℕ) (inner : IsInner ls ks rk) (i : ℕ)
+    (bound : Option Separator) where
+  pub end_of_last : suc i ≡ length ks → IsEnd ls ks i bound bound
+  end_of_last last = record {
+    entries = subst (λ (l : List Shape). AreFrom bound (all_entries l))
+        (sym (drop_all (suc i) ks (omega (arith, last))))
+        tt;
+    separators = subst (AllByRecursion (λ m. IsFrom bound (separator_place m)))
+        (sym (drop_all (suc i) ls (omega (arith, last, as_many ls ks rk inner)))) tt;
+    outer = λ m all from. from;
+  }
+
+  pub end_of_other : (s : Separator) → suc i < length ks → s ≡ get_or ls (suc i) s → IsEnd ls ks i bound (Some s)
+  end_of_other s more here =
+      let filled = inner.children.filled (omega (arith, more)) in
+      let some = AllByRecursion-drop (λ (k : Shape). 0 < length k.entries) (suc i) ks filled in
+      let within : suc i < length ls = omega (arith, more, as_many ls ks rk inner) in
+      let cut = parted_cut (suc i) ls ks s inner.children.parted filled within in
+      let rest : NoneBelow (separator_place s) (all_entries (drop (suc i) ks)) =
+      subst (λ (m : Separator). NoneBelow (separator_place m) (all_entries (drop (suc i) ks))) (sym here) cut.1 in
+      record {
+        entries = rest;
+        separators = from_first (drop (suc i) ls) s (here ∙ sym (get_dropped (suc i) ls s))
+            (separators_rise (drop (suc i) ls) (drop (suc i) ks)
+            (AreParted-drop (suc i) ls ks inner.children.parted) some);
+        outer = λ m all from less.
+            let apart = separators_apart (separator_place s) m (all_entries (drop (suc i) ks))
+            (some_entries (drop (suc i) ks) (omega (arith, more, length-drop (suc i) ks)) some) rest
+            (dropped_below m all) in
+            absurd (cc (turned_less (separator_place s) m apart, less));
+      }
+    where
+      dropped_below : (m : Place) → AllBelow m (all_entries ks) → AllBelow m (all_entries (drop (suc i) ks))
+      dropped_below m all = AllByRecursion-back (λ e. place_cmp (place_of e) m ≡ Less) (all_entries (take (suc i) ks))
+          (all_entries (drop (suc i) ks))
+          (subst (AllBelow m) (sym (all_entries_cut (suc i) ks)) all)
+
+-- the bound of a child: the separator of the next one, and that of its node where there is none
+pub end_of : (ls : List Separator) (ks : List Shape) (rk : ℕ) → IsInner ls ks rk → (i : ℕ) → i < length ks →
+    (bound next : Option Separator) → next ≡ slice_get ls (i + 1) → IsEnd ls ks i bound (option_or next bound)
+end_of ls ks rk inner i lt bound next is = by_place (slice_get_cases ls (suc i)).1
+  where
+    here : next ≡ slice_get ls (suc i)
+    here = is ∙ ap (slice_get ls) (omega arith)
+
+    by_place : ((s : Separator) × (suc i < length ls) × (slice_get ls (suc i) ≡ Some s) × (get_or ls (suc i) s ≡ s)) ⊎
+        ((length ls ≤ suc i) × (slice_get ls (suc i) ≡ None)) → IsEnd ls ks i bound (option_or next bound)
+    by_place (inl s) = subst (λ o. IsEnd ls ks i bound (option_or o bound)) (sym (here ∙ s.2))
+        (end_of_other ls ks rk inner i bound s.0 (omega (arith, s.1, as_many ls ks rk inner)) (sym s.3))
+    by_place (inr none) = subst (λ o. IsEnd ls ks i bound (option_or o bound)) (sym (here ∙ none.1))
+        (end_of_last ls ks rk inner i bound (omega (arith, lt, none.0, as_many ls ks rk inner)))
+
+pub copied_or : {X : Type 0} (a b : Option (Bor X)) → option_copied (option_or a b) ≡
+    option_or (option_copied a) (option_copied b)
+copied_or None b = refl
+copied_or (Some x) b = refl
+
+pub inserted_both : (xs ys es : List Entry) → all_inserted (xs ++ ys) es ≡ all_inserted ys (all_inserted xs es)
+inserted_both [] ys es = refl
+inserted_both (x ∷ xs) ys es = inserted_both xs ys (insert_entry es x)
+
+-- what stood before stands after an insertion
+pub still_stands : (xs es : List Entry) (part : ℕ) (key : OrderedKey) → IsSome (find es part key) →
+    IsSome (find (all_inserted xs es) part key)
+still_stands xs es part key stands = by_found (find (all_inserted xs es) part key) refl
+  where
+    by_found : (o : Option Slot) → find (all_inserted xs es) part key ≡ o → IsSome o
+    by_found (Some slot) e = refl
+    by_found None e = absurd (cc (free_before xs es part key e, stands))
+
+-- ---- an inner node, among the entries of one of whose children others were put
+
+module _ (ls : List Separator) (ks : List Shape) (rk : ℕ) (inner : IsInner ls ks rk) (i : ℕ) (k : Shape)
+    (lt : i < length ks) (here : k ≡ get_or ks i k) (bound end : Option Separator) (is_end : IsEnd ls ks i bound end)
+    (xs : List Entry) (among : AreAmong k.entries end xs) where
+  pub all_among : AreAmong (all_entries ks) bound xs
+  all_among = AllByRecursion-map (GoesAmong k.entries end) (GoesAmong (all_entries ks) bound)
+      (λ x b. record {
+        above = above_up ks i k lt here end x b;
+        below = λ m all from. b.below m (of_child (λ e. place_cmp (place_of e) m ≡ Less) ks i k lt here all)
+            (is_end.outer m all from);
+      }) xs among
+
+  pub all_free : AllFree k.entries xs → AllFree (all_entries ks) xs
+  all_free free = all_both (GoesAmong k.entries end) (λ x. find k.entries x.part x.key ≡ None)
+      (λ x. find (all_entries ks) x.part x.key ≡ None)
+      (λ x b f. ap (option_map slot_of) (found_among ks i k lt here inner.children.rising end is_end.entries x b) ∙ f)
+      xs among free
+
+  module _ (k' : Shape) (deep : k'.depth ≡ k.depth) (h : k'.entries ≡ all_inserted xs k.entries) where
+    pub put_entries : all_entries (set ks i k') ≡ all_inserted xs (all_entries ks)
+    put_entries = entries_among ks i k k' lt here inner.children.rising end is_end.entries xs among h
+
+    level : AllByRecursion (λ (j : Shape). j.depth + 1 ≡ depth_of ks) (set ks i k')
+    level =
+        let old = subst (λ (s : Shape). s.depth + 1 ≡ depth_of ks) (sym here)
+        (AllByRecursion-at (λ (j : Shape). j.depth + 1 ≡ depth_of ks) ks i k inner.children.level lt) in
+        all_set (λ (j : Shape). j.depth + 1 ≡ depth_of ks) ks i k' inner.children.level (omega (arith, old, deep))
+
+    pub put_depth : depth_of (set ks i k') ≡ depth_of ks
+    put_depth = depth_level (depth_of ks) (set ks i k') (omega (arith, lt, length-set ks i k')) level
+
+    filled : AllByRecursion (λ (j : Shape). 0 < length j.entries) ks →
+        AllByRecursion (λ (j : Shape). 0 < length j.entries) (set ks i k')
+    filled all = all_set (λ (j : Shape). 0 < length j.entries) ks i k' all
+        (subst (λ es. 0 < length es) (sym h) (some_inserted xs k.entries
+        (subst (λ (s : Shape). 0 < length s.entries) (sym here)
+        (AllByRecursion-at (λ (j : Shape). 0 < length j.entries) ks i k all lt))))
+
+    pub put_inner : IsRising xs → AllFree k.entries xs → IsRoomed k' → IsInner ls (set ks i k') rk
+    put_inner rise free roomed =
+        let same = length-set ks i k' in
+        inner_with (depth_of ks) ls (set ks i k') ls (set ks i k') rk refl refl (record {
+          level = level;
+          filled = (λ more. filled (inner.children.filled (omega (arith, more, same))));
+          parted = parted_among ls ks i k k' inner.children.parted lt here end is_end.separators xs among h;
+          roomed = all_set (λ (j : Shape). IsRoomed j) ks i k' inner.children.roomed roomed;
+          rising = subst IsRising (sym put_entries)
+              (rising_all_inserted xs (all_entries ks) rise (all_free free) inner.children.rising);
+        }) (omega (arith, same, inner.some)) (omega (arith, same, inner.most)) inner.room

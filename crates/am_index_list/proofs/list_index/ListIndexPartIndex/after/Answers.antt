@@ -1,0 +1,10 @@
+use Rattle.std.proofs.Common.{◌∙◌}
+use Rattle.am_index.proofs.Searches.{after_at}
+use Rattle.am_index.proofs.Rooms.{all_have_room}
+use Rattle.am_index_list.proofs.list_index.ListIndexPartIndex.after.Goals as goal
+
+pub returns-clause-found : goal.returns-clause-found
+returns-clause-found c = c.of_part.ensures ∙ after_at _ _ _ _ c.upper_bound.ensures.bound c.upper_bound.ensures.rising
+
+pub returns-clause-room : goal.returns-clause-room
+returns-clause-room c = all_have_room _

@@ -1,0 +1,93 @@
+-- What each call of the catalog leaves.
+use Rattle.std.proofs.Common.{◌≡◌, ◌≢◌, ℕ, zero, suc, ◌+◌, ◌<◌, ◌≤◌, Bool, List, [], ◌∷◌, length, get_or}
+use Rattle.std.proofs.Common.{set, drop, Result, Ok, Err, refl, sym, ap, ◌∙◌, subst, ⊎_elim, arith}
+use Rattle.std.specs.Prelude.{IsSome, OnOk, OnErr, nat_lt}
+use Rattle.std.proofs.lemmas.Bool.{cases_lt, ltb-true, lt-ltb}
+use Rattle.std.proofs.lemmas.List.{get_or_default}
+use Rattle.std.specs.List.{AllByRecursion}
+use Rattle.std.specs.List.Sorted.{IsPartitionedBy}
+use Rattle.am_record.specs.OrderedKey.{OrderedKey}
+use Rattle.am_record.specs.declared.entry.Entry.{Entry}
+use Rattle.am_index.specs.Entries.{find, insert_entry, remove_entry}
+use Rattle.am_index_parts.specs.declared.catalog.OpenRun.{OpenRun}
+use Rattle.am_index_parts.specs.Catalogs.{parts_of, PartsRise, AreListed, IsRunAt, HasMore}
+use Rattle.am_index_parts.proofs.ListedRuns.{run_more, run_less, below_at}
+
+-- ---- the search
+
+abbrev pub is_under : ℕ → OpenRun → Bool
+is_under part r = nat_lt r.part part
+
+pub partitioned : (part : ℕ) (rs : List OpenRun) → PartsRise (parts_of rs) → IsPartitionedBy (is_under part) rs
+partitioned part [] up i j d le lt h = absurd (omega arith)
+partitioned part (r ∷ rs) up zero zero d le lt h = h
+partitioned part (r ∷ rs) up zero (suc j) d le lt h =
+    let less = below_at r.part rs j d up.0 (omega arith) in
+    let under = ltb-true (get_or rs j d).part part h in
+    lt-ltb r.part part (omega (arith, less, under))
+partitioned part (r ∷ rs) up (suc i) zero d le lt h = absurd (omega arith)
+partitioned part (r ∷ rs) up (suc i) (suc j) d le lt h = partitioned part rs up.1 i j d (omega arith) (omega arith) h
+
+over_later : (part p : ℕ) (rs : List OpenRun) → part ≤ p → AllByRecursion (λ q. p < q) (parts_of rs) →
+    AllByRecursion (λ (r : OpenRun). part < r.part) rs
+over_later part p [] le up = tt
+over_later part p (r ∷ rs) le up = (let lt : p < r.part = up.0 in omega (arith, lt, le), over_later part p rs le up.1)
+
+-- where the run at the index isn't that of the partition, all from it on are above it
+pub strictly : (part : ℕ) (rs : List OpenRun) (i : ℕ) → PartsRise (parts_of rs) →
+    AllByRecursion (λ (r : OpenRun). part ≤ r.part) (drop i rs) →
+    ((d : OpenRun) → i < length rs → (get_or rs i d).part ≢ part)
+    → AllByRecursion (λ (r : OpenRun). part < r.part) (drop i rs)
+strictly part [] zero up at other = tt
+strictly part [] (suc i) up at other = tt
+strictly part (r ∷ rs) zero up at other =
+    let le : part ≤ r.part = at.0 in
+    let lt : part < r.part = ⊎_elim (λ (less : part < r.part). less)
+    (λ (same : r.part ≤ part). absurd (other r (omega arith) (omega (arith, same, le)))) (cases_lt part r.part) in
+    (lt, over_later part r.part rs le up.0)
+strictly part (r ∷ rs) (suc i) up at other = strictly part rs i up.1 at (λ d lt. other d (omega arith))
+
+-- ---- a change of the run at the index
+
+set_same : (rs : List OpenRun) (i : ℕ) (r : OpenRun) → r ≡ get_or rs i r → set rs i r ≡ rs
+set_same [] zero r h = refl
+set_same [] (suc i) r h = refl
+set_same (q ∷ rs) zero r h = ap (λ (x : OpenRun). x ∷ rs) h
+set_same (q ∷ rs) (suc i) r h = ap (λ l. q ∷ l) (set_same rs i r h)
+
+module _ {runs : List OpenRun} {part i : ℕ} (at : IsRunAt runs part i) (old new : OpenRun)
+    (stands : old ≡ get_or runs i old) where
+  pub stands_as : old ≡ get_or runs i new
+  stands_as = stands ∙ get_or_default runs i old new at.in_range
+
+  pub more_at : {T E : Type 0} (n : ℕ) (r : Result T E) → part ≢ 0 → OnOk r (HasMore old new)
+      → OnOk r ((es : List Entry) (x : Entry) → x.part ≡ part →
+      AreListed es n runs → AreListed (insert_entry es x) n (set runs i new))
+  more_at n (Ok v) some more = λ es x p h.
+      let has : HasMore (get_or runs i new) new = subst (λ (o : OpenRun). HasMore o new) stands_as more in
+      run_more h x (omega (arith, p, some)) i new (subst (λ (q : ℕ). IsRunAt runs q i) (sym p) at) has
+  more_at n (Err e) some more = tt
+
+  pub as_before : {T E : Type 0} (n : ℕ) (r : Result T E) → OnErr r (new ≡ old) →
+      OnErr r ((es : List Entry) → AreListed es n runs → AreListed es n (set runs i new))
+  as_before n (Ok v) same = tt
+  as_before n (Err e) same = λ es h.
+      subst (AreListed es n) (sym (ap (λ (x : OpenRun). set runs i x) same ∙ set_same runs i old stands)) h
+
+  pub less_at : (n : ℕ) → part ≢ 0 → new.part ≡ old.part → new.left + 1 ≡ old.left → 0 < new.left →
+      (es : List Entry) (key : OrderedKey) → AreListed es n runs → IsSome (find es part key) →
+      AreListed (remove_entry es part key) n (set runs i new)
+  less_at n some p less left = λ es key h there.
+      let is = stands_as in
+      run_less h part key there (omega (arith, some)) i at new (p ∙ ap (λ (o : OpenRun). o.part) is)
+      (less ∙ ap (λ (o : OpenRun). o.left) is) left
+
+-- ---- the whole catalog
+
+pub ok_map : {T E : Type 0} {A B : Type 0} (r : Result T E) → (A → B) → OnOk r A → OnOk r B
+ok_map (Ok v) f a = f a
+ok_map (Err e) f a = tt
+
+pub err_map : {T E : Type 0} {A B : Type 0} (r : Result T E) → (A → B) → OnErr r A → OnErr r B
+err_map (Ok v) f a = tt
+err_map (Err e) f a = f a

@@ -1,0 +1,23 @@
+//! The partitions of one index: every change keeps each key live in at most one of them.
+//!
+//! [`Parts`] has the runs that were loaded and the final partition, in one index, and beside them:
+//! - the catalog: which runs have entries, and how many. A run leaves it with its last entry.
+//! - the residences: a directory ([`am_index_directory`]) tells in which run a key is live, so a read costs one look
+//!   there and one descent. They may forget, and then all runs are searched.
+//! - the merged ranges: once a merge step finds nothing left in a range, no run has an entry there, and only loads
+//!   make new runs. So a range is kept with the first run that may have an entry in it, and scans and merge steps
+//!   begin at that run. Two that meet become one; of more than 4,096 those of the highest keys go. What is known is
+//!   right, and never needed.
+#![tactic(auto)]
+
+mod catalog;
+mod fault;
+mod key_look;
+mod merged_ranges;
+mod parts;
+mod residences;
+mod run_entry;
+mod way_home;
+
+pub use fault::RunFault;
+pub use parts::{Parts, Vacancy};

@@ -1,0 +1,6 @@
+pub mod Replies
+pub mod FittingReplies
+pub mod StoreAnswers
+pub mod FullSeats
+pub mod Rooms
+pub mod MemoryWants

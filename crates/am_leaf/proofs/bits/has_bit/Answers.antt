@@ -1,5 +1,0 @@
-use Rattle.am_leaf.proofs.BitLemmas.{bit_is}
-use Rattle.am_leaf.proofs.bits.has_bit.Goals as goal
-
-pub returns : goal.returns
-returns c = bit_is c.args.word c.args.at

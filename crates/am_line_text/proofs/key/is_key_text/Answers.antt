@@ -1,0 +1,13 @@
+use Rattle.std.proofs.Common.{not, ◌&&◌, sym, ap, ◌∙◌, rules, tests}
+use Rattle.std.specs.List.{list_all}
+use Rattle.std.proofs.lemmas.Iterator.{YieldsList-from_slice}
+use Rattle.std.proofs.lemmas.Iterator.Search.{all_from_yields_List}
+use Rattle.am_line_text.specs.Keys.{is_key_byte}
+use Rattle.am_line_text.proofs.key.is_key_text.Goals as goal
+
+pub returns-then-not-is_empty : goal.returns-then-not-is_empty
+returns-then-not-is_empty c =
+    let text = c.args.text.now in
+    let all = all_from_yields_List is_key_byte _ _ c.all.result c.all.ensures.ran (YieldsList-from_slice text cc)
+    (λ x b q k. search (rules, tests)) in
+    all ∙ ap (λ b. not b && list_all is_key_byte text) (sym c.if-not-is_empty.true ∙ c.is_empty.ensures)

@@ -1,9 +1,0 @@
-use Rattle.std.proofs.Common.{◌≤◌, vec_capacity}
-use Rattle.am_index.proofs.Rows.{AreCopied}
-use Rattle.am_list_index.proofs.list_index.ListIndexPartIndex.copy_rows.Given as goal
-
-abbrev pub invariant-loop-at : goal.invariant-loop-at
-invariant-loop-at l = record {
-  copied : AreCopied l.self l.fn.part l.fn.range l.fn.max l.fn.rows.items l.rows.items l.at;
-  room : vec_capacity l.fn.rows ≤ vec_capacity l.rows;
-}

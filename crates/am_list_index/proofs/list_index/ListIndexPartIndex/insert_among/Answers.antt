@@ -1,5 +1,0 @@
-use Rattle.am_index.proofs.Rooms.{all_keep_room}
-use Rattle.am_list_index.proofs.list_index.ListIndexPartIndex.insert_among.Goals as goal
-
-pub returns-clause-rooms : goal.returns-clause-rooms
-returns-clause-rooms c = all_keep_room _ _

@@ -1,8 +1,0 @@
-use Rattle.am_index.proofs.Rooms.{all_has_room, all_keep_room}
-use Rattle.am_list_index.proofs.list_index.ListIndexPartIndex.make_room.Goals as goal
-
-pub returns-clause-ok : goal.returns-clause-ok
-returns-clause-ok c = all_has_room _ _ _ _ c.requires.present
-
-pub returns-clause-rooms : goal.returns-clause-rooms
-returns-clause-rooms c = all_keep_room _ _

@@ -1,6 +1,0 @@
-use Rattle.std.proofs.Common.{◌≡◌, ◌++◌, take}
-use Rattle.am_index.specs.Runs.{run_entries}
-use Rattle.am_list_index.proofs.list_index.push_run.Given as goal
-
-abbrev pub invariant-loop-pair : goal.invariant-loop-pair
-invariant-loop-pair l = l.items.items ≡ l.initial.items.items ++ run_entries l.part (take l.pair-index l.pairs)

@@ -1,5 +1,0 @@
-use Rattle.am_log.proofs.Snapshots.{named_stays}
-use Rattle.am_log.proofs.laws.named_snapshots_stay.Goals as goal
-
-pub returns : goal.returns
-returns c = named_stays

@@ -1,5 +1,0 @@
-use Rattle.am_log.proofs.Standing.{begins, follows}
-use Rattle.am_log.proofs.laws.snapshot_readers_follow.Goals as goal
-
-pub returns : goal.returns
-returns c = record { begins = begins; follows = follows }

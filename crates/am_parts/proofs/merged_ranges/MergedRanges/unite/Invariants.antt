@@ -1,6 +1,0 @@
-use Rattle.std.proofs.Common.{◌∷◌}
-use Rattle.am_parts.specs.MergedRanges.{SayNoMore}
-use Rattle.am_parts.proofs.merged_ranges.MergedRanges.unite.Given as goal
-
-abbrev pub invariant-met : goal.invariant-met
-invariant-met l = SayNoMore (l.fn.merged ∷ l.fn.self.list.items) (l.merged ∷ l.self.list.items)

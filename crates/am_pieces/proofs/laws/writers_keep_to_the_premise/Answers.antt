@@ -1,5 +1,0 @@
-use Rattle.am_pieces.proofs.OnWay.{keep_to}
-use Rattle.am_pieces.proofs.laws.writers_keep_to_the_premise.Goals as goal
-
-pub returns : goal.returns
-returns c = keep_to

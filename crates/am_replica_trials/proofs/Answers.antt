@@ -1,0 +1,84 @@
+-- What a line is answered.
+use Rattle.std.proofs.Common.{◌≡◌, ℕ, ◌+◌, length, List, [], ◌∷◌, ◌++◌, true, false, sym, ap}
+use Rattle.std.proofs.Common.{◌∙◌, arith, append-nil}
+use Rattle.std.proofs.lemmas.List.{length-append, length-drop}
+use Rattle.am_record.specs.Plain.{PlainMap}
+use Rattle.am_record.specs.Records.{Records}
+use Rattle.am_record.specs.declared.step.Op.{Op}
+use Rattle.am_record.specs.declared.step.Reply.{Reply}
+use Rattle.am_line_source.specs.Lines.{line_of, HasNoLf}
+use Rattle.am_line_wire.specs.declared.request.Request.TheVariants.{Do, Stage}
+use Rattle.am_line_dialogue.specs.Actions.{with_staged, staged_left, stage_response}
+use Rattle.am_line_dialogue.specs.ParsedLine.{parsed}
+use Rattle.am_line_dialogue.specs.declared.lines.ParsedLine.TheVariants.{Asked}
+use Rattle.am_line_dialogue.specs.declared.response.Response.{Response}
+use Rattle.am_replica.specs.Bodies.{kept, replies}
+use Rattle.am_replica.specs.Ordered.{Sum}
+use Rattle.am_replica.specs.Told.{TransactionState, still_stands, behind_lines, untold}
+use Rattle.am_replica.proofs.Given.{replies_length}
+use Rattle.am_replica_blocks.specs.Blocks.{Line, Asks, Stages, staged_by, waiting, ops_of}
+use Rattle.am_replica_lines.specs.Lines.{at_work}
+use Rattle.am_replica_lines.proofs.Lines.{ops_of-push}
+use Rattle.am_replica_trials.specs.Trials.{Stand, HasLines, has_room, whole_op, IsReply, IsStage}
+use Rattle.am_replica_trials.proofs.Lines.{has_more, kept_more}
+
+one_reply : (front replies : List Reply) (reply : Reply) → replies ≡ front ++ reply ∷ [] → length replies ≡ 1 →
+    replies ≡ reply ∷ []
+one_reply [] replies reply is one = is
+one_reply (r ∷ front) replies reply is one =
+    let long : length replies ≡ length (r ∷ front) + 1 = ap length is ∙ length-append (r ∷ front) (reply ∷ []) in
+    absurd (omega arith)
+
+-- an operation has one reply
+one_untold : (t : TransactionState) (op : Op) (m : PlainMap) → length (untold t (op ∷ []) m) ≡ 1
+one_untold t op m =
+    let all : length (replies (t.ops ++ op ∷ []) m) ≡ length t.ops + 1 =
+    replies_length m [] (t.ops ++ op ∷ []) ∙ length-append t.ops (op ∷ []) in
+    let left = length-drop (length t.ops) (replies (t.ops ++ op ∷ []) m) in
+    omega arith
+
+module _ (digest : List Reply → Sum) (own : List Line) (s s' : Stand) (line : List ℕ) (has : HasLines own s)
+    (one : HasNoLf line) (room : has_room s line ≡ true) (on : s.is_over ≡ false) where
+  pub replied : (op : Op) (m : PlainMap) (front : List Reply) (reply : Reply) →
+      parsed (line_of line) ≡ Asked (Do op) → still_stands digest s.transaction (whole_op own op) m ≡ true →
+      untold s.transaction (whole_op own op) m ≡ front ++ reply ∷ [] →
+      s'.transaction ≡ behind_lines digest s.transaction (whole_op own op) m →
+      s'.session ≡ at_work (staged_left (waiting [] own) op) → s'.lines ≡ s.lines ++ (line ++ 10 ∷ []) →
+      s'.answered ≡ s.answered + 1 → s'.is_over ≡ s.is_over → IsReply digest own s line m reply s'
+  replied op m front reply asks stands told goes_on session lines answered over =
+      let whole = with_staged (waiting [] own) op in
+      record {
+        op = op;
+        asks = asks;
+        room = room;
+        not_over = on;
+        stands = stands;
+        tells = one_reply front (untold s.transaction (whole_op own op) m) reply told
+            (one_untold s.transaction whole m);
+        goes_on = goes_on;
+        has = has_more own s s' line (Asks op) has one room asks lines answered
+            (ap (λ (t : TransactionState). t.ops) goes_on
+            ∙ ap (λ ops. kept (ops ++ whole ∷ [])) has.ops
+            ∙ kept_more (ops_of [] own) whole
+            ∙ ap kept (sym (ops_of-push [] own (Asks op))))
+            session (over ∙ on ∙ sym (ap (λ (t : TransactionState). t.is_over) goes_on));
+      }
+
+  pub stages : (records : Records) (response : Response) → parsed (line_of line) ≡ Asked (Stage records) →
+      response ≡ stage_response (waiting [] own) records → s'.transaction ≡ s.transaction →
+      s'.session ≡ at_work (staged_by (waiting [] own) records) → s'.lines ≡ s.lines ++ (line ++ 10 ∷ []) →
+      s'.answered ≡ s.answered + 1 → s'.is_over ≡ s.is_over → IsStage own s line response s'
+  stages records response asks says same session lines answered over = record {
+    records = records;
+    asks = asks;
+    room = room;
+    not_over = on;
+    says = says;
+    goes_on = same;
+    has = has_more own s s' line (Stages records) has one room asks lines answered
+        (ap (λ (t : TransactionState). t.ops) same
+        ∙ has.ops
+        ∙ ap kept (sym (ops_of-push [] own (Stages records) ∙ append-nil (ops_of [] own))))
+        session
+        (over ∙ has.over ∙ sym (ap (λ (t : TransactionState). t.is_over) same));
+  }

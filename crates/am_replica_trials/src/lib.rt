@@ -1,0 +1,15 @@
+//! A transaction over texts, as a client's session has it before it is a block of the log.
+//!
+//! - [`LineTransaction`]: its lines are tried one after another, each answered by the state of the moment. They are
+//!   kept as the bytes of its block, which a replica reads as the same operations ([`LineTransaction::into_block`]).
+//! - [`TrialAnswer`]: what a line is answered.
+//! - [`blocks_stand_where_trials_do`]: the block commits where all answers come again.
+#![tactic(auto)]
+
+mod answer;
+mod laws;
+mod transaction;
+
+pub use answer::TrialAnswer;
+pub use laws::blocks_stand_where_trials_do;
+pub use transaction::LineTransaction;

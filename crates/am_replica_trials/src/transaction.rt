@@ -1,0 +1,291 @@
+//! Transactions over texts.
+
+ghost use Rattle.std.specs.Prelude.{◌≡◌, ◌+◌, ◌*◌, ◌<◌, ◌^◌, ◌++◌, ◌∷◌, [], List, Some, None, true, false, IfOk, OnOk};
+ghost use Rattle.std.specs.Prelude.{nat_le, length};
+ghost use Rattle.am_record.specs.Records.{Records as TheRecords};
+ghost use Rattle.am_line_source.specs.Lines.{HasNoLf, line_of};
+ghost use Rattle.am_line_dialogue.specs.ParsedLine.{parsed};
+ghost use Rattle.am_line_dialogue.specs.declared.lines.ParsedLine.TheVariants.{Asked};
+ghost use Rattle.am_line_dialogue.specs.Actions.{with_staged, staged_left, stage_response};
+ghost use Rattle.am_replica_blocks.specs.Blocks.{Line, staged_by, waiting, ops_of};
+ghost use Rattle.am_replica_lines.specs.Lines.{at_work, AsksOps, told_lines};
+ghost use Rattle.am_replica_trials.specs.Trials.{HasLines, IsAnswered, has_room};
+
+use crate::answer::TrialAnswer;
+use am_line_dialogue::{Action, ParsedLine, Response, Session};
+use am_line_text::LineFault;
+use am_line_wire::Request;
+use am_record::{NoMemory, Op, Records, Reply, Step};
+use am_replica::{Digest, Machine, Transaction, TrialFault};
+use am_replica_entries::{Block, Told};
+use am_replica_lines::parse_cut;
+use std::alloc::Global;
+
+/// The most bytes of a block's lines, each counted with 100 more.
+const MAX_LINES_LEN: usize = 64_000_000;
+
+/// A transaction: what it was told, the records that wait, and the lines that were answered.
+#[derive(Drop)]
+pub struct LineTransaction {
+    pub transaction: Transaction,
+    pub session: Session,
+    pub lines: Vec<u8>,
+    pub answered: u32,
+    pub is_over: bool,
+}
+
+impl LineTransaction {
+    /// One that has no lines.
+    ///
+    /// # Errors
+    /// NoMemory, where memory was refused.
+    pub fn new<D: Digest>(alloc: Global, digest: &D) -> Result<LineTransaction, NoMemory>
+        ensures { IfOk result (λ t. HasLines [] (record {
+          transaction = t.transaction;
+          session = t.session;
+          lines = t.lines.items;
+          answered = t.answered;
+          is_over = t.is_over;
+        })) }
+    {
+        let transaction = Transaction::new(alloc, digest)?;
+        let mut session = Session::new(alloc);
+        session.reply(&Reply::Begun(1));
+        Ok(LineTransaction {
+            transaction,
+            session,
+            lines: Vec::new(alloc),
+            answered: 0,
+            is_over: false,
+        })
+    }
+
+    /// Takes a line, without its LF, where the store stands now.
+    ///
+    /// # Errors
+    /// NoMemory, where memory was refused: the replica ends.
+    pub fn take<M: Machine, D: Digest>(
+        &mut self,
+        alloc: Global,
+        machine: &mut M,
+        digest: &D,
+        line: &[u8],
+    ) -> Result<TrialAnswer, NoMemory>
+        requires idle { M.idle machine.old }
+        requires one { HasNoLf line.now }
+        ensures idle { OnOk result (M.idle machine.new) }
+        ensures same { OnOk result (M.map machine.new ≡ M.map machine.old) }
+        ensures answered { (own : List Line) → HasLines own (record {
+          transaction = self.old.transaction;
+          session = self.old.session;
+          lines = self.old.lines.items;
+          answered = self.old.answered;
+          is_over = self.old.is_over;
+        }) →
+            IfOk result (λ answer. IsAnswered D.digest_of own (record {
+              transaction = self.old.transaction;
+              session = self.old.session;
+              lines = self.old.lines.items;
+              answered = self.old.answered;
+              is_over = self.old.is_over;
+            }) line.now (M.map machine.old) answer (record {
+              transaction = self.new.transaction;
+              session = self.new.session;
+              lines = self.new.lines.items;
+              answered = self.new.answered;
+              is_over = self.new.is_over;
+            })) }
+    {
+        match parse_cut(alloc, line) {
+            ParsedLine::Asked(Request::Do(op)) => {
+                if self.is_over {
+                    return Ok(TrialAnswer::Conflict);
+                }
+                if !self.has_room(line) {
+                    return Ok(TrialAnswer::Limit);
+                }
+                self.operation(alloc, machine, digest, line, op)
+            }
+            ParsedLine::Asked(Request::Stage(records)) => {
+                if self.is_over {
+                    return Ok(TrialAnswer::Conflict);
+                }
+                if !self.has_room(line) {
+                    return Ok(TrialAnswer::Limit);
+                }
+                let response = staged(&mut self.session, records)?;
+                self.keep(line)?;
+                Ok(TrialAnswer::Stage(response))
+            }
+            ParsedLine::Faulty(LineFault::NoMemory) => Err(NoMemory),
+            _ => Ok(TrialAnswer::Other),
+        }
+    }
+
+    /// The transaction as a block of an entry, where no records wait: a replica reads it as the operations that were
+    /// tried, of which all were told.
+    ///
+    /// # Errors
+    /// NoMemory, where memory was refused.
+    pub fn into_block(self, alloc: Global) -> Result<Block, NoMemory>
+        ensures read { (own : List Line) → HasLines own (record {
+          transaction = self.transaction;
+          session = self.session;
+          lines = self.lines.items;
+          answered = self.answered;
+          is_over = self.is_over;
+        }) →
+            waiting [] own ≡ [] → IfOk result (λ entry. AsksOps entry.lines.items (told_lines entry.told)
+            (ops_of [] own) (length (ops_of [] own))) }
+        ensures lines { IfOk result (λ entry. entry.lines.items ≡ self.lines.items) }
+        ensures none { self.answered ≡ 0 → IfOk result (λ entry. entry.told ≡ None) }
+        ensures told { 0 < self.answered → IfOk result (λ entry. entry.told ≡
+            Some (record { lines = self.answered; digest = self.transaction.digest })) }
+    {
+        let LineTransaction {
+            transaction,
+            session,
+            lines,
+            answered,
+            is_over: _,
+        } = self;
+        drop(session);
+        let told = told_of(alloc, transaction, answered)?;
+        Ok(Block { lines, told })
+    }
+
+    // Tries an operation with what waits.
+    fn operation<M: Machine, D: Digest>(
+        &mut self,
+        alloc: Global,
+        machine: &mut M,
+        digest: &D,
+        line: &[u8],
+        op: Op,
+    ) -> Result<TrialAnswer, NoMemory>
+        requires idle { M.idle machine.old }
+        requires one { HasNoLf line.now }
+        requires not_over { self.old.is_over ≡ false }
+        requires few { self.old.answered < 2 ^ 31 }
+        ensures idle { OnOk result (M.idle machine.new) }
+        ensures same { OnOk result (M.map machine.new ≡ M.map machine.old) }
+        ensures answered { (own : List Line) → HasLines own (record {
+          transaction = self.old.transaction;
+          session = self.old.session;
+          lines = self.old.lines.items;
+          answered = self.old.answered;
+          is_over = self.old.is_over;
+        }) →
+            has_room (record {
+              transaction = self.old.transaction;
+              session = self.old.session;
+              lines = self.old.lines.items;
+              answered = self.old.answered;
+              is_over = self.old.is_over;
+            }) line.now ≡ true →
+            parsed (line_of line.now) ≡ Asked (Request.Do op) →
+            IfOk result (λ answer. IsAnswered D.digest_of own (record {
+              transaction = self.old.transaction;
+              session = self.old.session;
+              lines = self.old.lines.items;
+              answered = self.old.answered;
+              is_over = self.old.is_over;
+            }) line.now (M.map machine.old) answer (record {
+              transaction = self.new.transaction;
+              session = self.new.session;
+              lines = self.new.lines.items;
+              answered = self.new.answered;
+              is_over = self.new.is_over;
+            })) }
+    {
+        let whole = [taken(&mut self.session, op)?];
+        let told = self.transaction.trial(alloc, machine, digest, &whole);
+        match told {
+            Err(TrialFault::NoMemory) => Err(NoMemory),
+            Err(TrialFault::Conflict) => {
+                self.is_over = true;
+                Ok(TrialAnswer::Conflict)
+            }
+            Ok(mut told) => {
+                let Some(reply) = told.pop() else {
+                    return Err(NoMemory);
+                };
+                self.keep(line)?;
+                Ok(TrialAnswer::Reply(reply))
+            }
+        }
+    }
+
+    // Whether the block has room for the line.
+    fn has_room(&self, line: &[u8]) -> bool
+        ensures { result ≡ nat_le (length self.now.lines.items + 99 * self.now.answered + length line.now + 100)
+            64000000 }
+    {
+        let counted = 99 * (self.answered as usize) + 100;
+        let bytes = self.lines.len().saturating_add(line.len());
+        bytes.saturating_add(counted) <= MAX_LINES_LEN
+    }
+
+    // Keeps a line that was answered.
+    fn keep(&mut self, line: &[u8]) -> Result<(), NoMemory>
+        requires { self.old.answered < 2 ^ 31 }
+        ensures lines { OnOk result (self.new.lines.items ≡ self.old.lines.items ++ (line.now ++ 10 ∷ [])) }
+        ensures answered { OnOk result (self.new.answered ≡ self.old.answered + 1) }
+        ensures transaction { self.new.transaction ≡ self.old.transaction }
+        ensures session { self.new.session ≡ self.old.session }
+        ensures over { self.new.is_over ≡ self.old.is_over }
+    {
+        self.lines.extend_from_slice(line)?;
+        self.lines.push(b'\n')?;
+        self.answered += 1;
+        Ok(())
+    }
+}
+
+// What was told, where some lines were answered.
+fn told_of(alloc: Global, transaction: Transaction, answered: u32) -> Result<Option<Told>, NoMemory>
+    ensures none { answered ≡ 0 → IfOk result (λ told. told ≡ None) }
+    ensures some { 0 < answered → IfOk result (λ told. told ≡
+        Some (record { lines = answered; digest = transaction.digest })) }
+{
+    let am_replica::Block {
+        ops,
+        told: _,
+        digest,
+    } = transaction.into_block(alloc, &[])?;
+    drop(ops);
+    if answered == 0 {
+        return Ok(None);
+    }
+    Ok(Some(Told {
+        lines: answered,
+        digest,
+    }))
+}
+
+// The operation with what waits.
+fn taken(session: &mut Session, op: Op) -> Result<Op, NoMemory>
+    ensures asks { (staged : TheRecords) → session.old ≡ at_work staged →
+        IfOk result (λ whole. whole ≡ with_staged staged op) }
+    ensures left { (staged : TheRecords) → session.old ≡ at_work staged →
+        OnOk result (session.new ≡ at_work (staged_left staged op)) }
+{
+    match session.action(ParsedLine::Asked(Request::Do(op))) {
+        Action::Take(Step::Do(_, whole)) => Ok(whole),
+        _ => Err(NoMemory),
+    }
+}
+
+// Records wait, where there is room beside those that wait already.
+fn staged(session: &mut Session, records: Records) -> Result<Response, NoMemory>
+    ensures says { (staged : TheRecords) → session.old ≡ at_work staged →
+        IfOk result (λ response. response ≡ stage_response staged records) }
+    ensures left { (staged : TheRecords) → session.old ≡ at_work staged →
+        OnOk result (session.new ≡ at_work (staged_by staged records)) }
+{
+    match session.action(ParsedLine::Asked(Request::Stage(records))) {
+        Action::Answer(Response::Faulty(_)) => Err(NoMemory),
+        Action::Answer(response) => Ok(response),
+        _ => Err(NoMemory),
+    }
+}

@@ -1,6 +1,0 @@
-use Rattle.std.proofs.Common.{◌≡◌, take}
-use Rattle.am_runs.specs.RecordPlaces.{named}
-use Rattle.am_runs.proofs.record_order.gather.Given as goal
-
-abbrev pub invariant-loop-spot : goal.invariant-loop-spot
-invariant-loop-spot g l = l.pairs.items ≡ named (g.S.RecordSource.records l.source) (take l.spot-index l.spots)

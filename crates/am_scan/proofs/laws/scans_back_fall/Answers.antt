@@ -1,5 +1,0 @@
-use Rattle.am_scan.proofs.RisingRows.{scan_back_falls}
-use Rattle.am_scan.proofs.laws.scans_back_fall.Goals as goal
-
-pub returns : goal.returns
-returns c = scan_back_falls

@@ -1,5 +1,0 @@
-use Rattle.am_serial.proofs.FormedTraces.{formed_laws}
-use Rattle.am_serial.proofs.formed_traces_follow.Goals as goal
-
-pub returns : goal.returns
-returns c = formed_laws

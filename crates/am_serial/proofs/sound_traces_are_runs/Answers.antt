@@ -1,5 +1,0 @@
-use Rattle.am_serial.proofs.Sound.{sound_is_run}
-use Rattle.am_serial.proofs.sound_traces_are_runs.Goals as goal
-
-pub returns : goal.returns
-returns c = sound_is_run

@@ -1,5 +1,0 @@
-use Rattle.am_serial.proofs.OneStep.{step_laws}
-use Rattle.am_serial.proofs.steps_follow.Goals as goal
-
-pub returns : goal.returns
-returns c = step_laws

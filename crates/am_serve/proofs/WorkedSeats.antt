@@ -1,0 +1,32 @@
+-- What workers leave of their seats.
+use Rattle.std.proofs.Common.{◌≡◌, List, [], ◌∷◌, ◌++◌, ap, sym, ◌∙◌, refl, subst, All}
+use Rattle.std.specs.List.{AllZip}
+use Rattle.std.proofs.lemmas.List.Elements.{All-nil, All-cons}
+use Rattle.am_latch_ties.specs.declared.receipt.Receipt.{Receipt}
+use Rattle.am_latch.specs.Receipts.{SeatState}
+use Rattle.am_serve_seat.specs.Seats.{seat_numbers, IsNewSeat}
+use Rattle.am_serve_seat.proofs.SeatOrder.{all_first, all_rest}
+use Rattle.am_serve_workers.specs.Turns.{AreOfTurns}
+use Rattle.am_serve_connections.specs.declared.lifetime.Lifetime.{Lifetime}
+use Rattle.am_serve_connections.specs.Lifetimes.{most_turns, upkeep_of}
+use Rattle.am_serve.specs.ServerTraces.{HasWorked, IsOfWorker}
+
+pub same_worked : (lifetime : Lifetime) (xs ys : List SeatState) → AllZip (HasWorked lifetime) xs ys →
+    seat_numbers ys ≡ seat_numbers xs
+same_worked lifetime [] [] h = refl
+same_worked lifetime [] (y ∷ ys) h = absurd h
+same_worked lifetime (x ∷ xs) [] h = absurd h
+same_worked lifetime (x ∷ xs) (y ∷ ys) h = λ i. h.0.number i ∷ same_worked lifetime xs ys h.1 i
+
+pub all_of_workers : (lifetime : Lifetime) (xs ys : List SeatState) → AllZip (HasWorked lifetime) xs ys →
+    All IsNewSeat xs →
+    All (IsOfWorker lifetime) ys
+all_of_workers lifetime [] [] h new = All-nil (IsOfWorker lifetime)
+all_of_workers lifetime [] (y ∷ ys) h new = absurd h
+all_of_workers lifetime (x ∷ xs) [] h new = absurd h
+all_of_workers lifetime (x ∷ xs) (y ∷ ys) h new =
+    All-cons (IsOfWorker lifetime) y ys
+    (subst (AreOfTurns (upkeep_of lifetime) 16 (most_turns lifetime))
+    (sym (h.0.longer ∙ ap (λ (l : List Receipt). l ++ h.0.more) (all_first IsNewSeat x xs (x ∷ xs) refl new)))
+    h.0.turns)
+    (all_of_workers lifetime xs ys h.1 (all_rest IsNewSeat x xs (x ∷ xs) refl new))

@@ -1,0 +1,23 @@
+use Rattle.std.proofs.Common.{eqb, sym, ◌∙◌, rules, tests, subst}
+use Rattle.std.specs.Prelude.{IfNone}
+use Rattle.std.proofs.lemmas.Iterator.{YieldsList-from_slice}
+use Rattle.std.proofs.lemmas.Iterator.Search.{position_from_yields_List}
+use Rattle.am_line_source.proofs.LineEnds.{before_lf, without_lf}
+use Rattle.am_line_source.specs.Lines.{HasNoLf}
+use Rattle.am_line_source.proofs.LineEnds.{no_lf}
+use Rattle.am_serve_connections.proofs.own_lines.first_line.Goals as goal
+
+pub returns-in_err-end-clause-none : goal.returns-in_err-end-clause-none
+returns-in_err-end-clause-none c =
+    let bytes = c.args.bytes.now in
+    let place = position_from_yields_List (λ b. eqb b 10) _ _ c.position.result c.position.ensures.ran
+    (YieldsList-from_slice bytes cc) (λ x b q k. search (rules, tests)) in
+    subst (λ found. IfNone found (HasNoLf bytes)) (sym c.from_residual.ensures)
+    (no_lf bytes (without_lf bytes (sym place ∙ c.in_err-end.was)))
+
+pub returns-clause-one : goal.returns-clause-one
+returns-clause-one c =
+    let bytes = c.args.bytes.now in
+    let place = position_from_yields_List (λ b. eqb b 10) _ _ c.position.result c.position.ensures.ran
+    (YieldsList-from_slice bytes cc) (λ x b q k. search (rules, tests)) in
+    (before_lf bytes c.in_ok-end.end (sym place ∙ c.in_ok-end.was)).0

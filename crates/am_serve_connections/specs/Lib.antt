@@ -1,0 +1,12 @@
+pub mod Http
+pub mod OwnLines
+pub mod Lifetimes
+pub mod Waits
+pub mod Acceptors
+pub mod Countings
+pub mod Turnstiles
+pub mod Tickets
+pub mod WaitingLaws
+pub mod Patience
+pub mod Connections
+pub mod Endpoints

@@ -1,0 +1,46 @@
+//! Where connections come to a server, and what its threads share beside the store.
+//!
+//! - [`listen_at_port`], [`listen_at_socket`]: a port of this machine, a socket of its file system ([`Endpoint`]).
+//! - [`SharedState`]: acceptors at which threads wait for connections, those that are open ([`Connections`]), what
+//!   is counted, and workers' turns.
+//! - [`Turnstile`]: where sessions wait that have nothing begun: while one of them holds, and where 64 have begun.
+//! - [`ClientBytes`]: what comes from a connection, and how long that is waited for.
+//! - [`OwnLines`]: a connection whose bytes are passed on as far as they are lines of the protocol.
+//! - [`Pacer`], [`Upkeep`]: when a worker may take its next turn, and what it does then; [`MergePacer`] gives turns for
+//!   answers.
+//! - [`CountingSink`]: a sink of a session, whose answers let workers have turns.
+#![tactic(auto)]
+
+mod acceptor;
+mod client_bytes;
+mod connections;
+mod counting_sink;
+mod endpoint;
+mod http;
+mod laws;
+mod lifetime;
+mod line;
+mod own_lines;
+mod pacer;
+mod rounds;
+mod session_counters;
+mod shared_state;
+mod tickets;
+mod turns;
+mod turnstile;
+mod unended_line;
+mod waiting;
+
+pub use client_bytes::ClientBytes;
+pub use connections::Connections;
+pub use counting_sink::CountingSink;
+pub use endpoint::{Endpoint, listen_at_port, listen_at_socket};
+pub use laws::{oldest_connections_go_first, oldest_sessions_go_on_first, requests_are_seen};
+pub use lifetime::Lifetime;
+pub use own_lines::OwnLines;
+pub use pacer::MergePacer;
+pub use session_counters::SessionCounts;
+pub use shared_state::{Endpoints, Limits, SharedState};
+pub use turns::{Pacer, Upkeep};
+pub use turnstile::{HoldReply, Turnstile};
+pub use waiting::turn_away;

@@ -1,0 +1,4 @@
+pub mod Pieces
+pub mod Stops
+pub mod Told
+pub mod Logs

@@ -1,8 +1,0 @@
-use Rattle.am_server.proofs.StoredTraces.{stored}
-use Rattle.am_server.proofs.server.close_all.Goals as goal
-
-pub returns-clause-stored : goal.returns-clause-stored
-returns-clause-stored g c = λ first held. stored g.T.PieceTaker.took g.met.T.PieceTaker.took_both c.args.keeper.taker
-    first
-    c.args.keeper.pieces c.args.keeper.events g.L.LatchName.most_runs c.args.seats.items c.pass_rest.result held
-    c.pass_rest.ensures.closed

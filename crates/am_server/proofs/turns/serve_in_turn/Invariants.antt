@@ -1,5 +1,0 @@
-use Rattle.am_server.proofs.InTurn.{IsKept}
-use Rattle.am_server.proofs.turns.serve_in_turn.Given as goal
-
-abbrev pub invariant-sessions : goal.invariant-sessions
-invariant-sessions g l = IsKept g.L.LatchName.most_runs l.turn l.fn.session_seat l.session_seat

@@ -1,6 +1,0 @@
-use Rattle.am_sink.proofs.Writes.{wrote_flushed}
-use Rattle.am_session.proofs.conversation.send.Goals as goal
-
-pub returns-clause-wrote : goal.returns-clause-wrote
-returns-clause-wrote g c = wrote_flushed c.flush.result c.in_ok-put_response.ensures.wrote c.flush.ensures.kept
-    c.flush.ensures.ok c.flush.ensures.failed

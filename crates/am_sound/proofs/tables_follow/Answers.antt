@@ -1,5 +1,0 @@
-use Rattle.am_sound.proofs.Tables.{table_laws}
-use Rattle.am_sound.proofs.tables_follow.Goals as goal
-
-pub returns : goal.returns
-returns c = table_laws

@@ -1,0 +1,11 @@
+pub mod Buckets
+pub mod LockCounts
+pub mod LockChains
+pub mod Conflicts
+pub mod Apart
+pub mod AllLocks
+pub mod Places
+pub mod Numbers
+pub mod Least
+pub mod Laws
+pub mod FirstOwners

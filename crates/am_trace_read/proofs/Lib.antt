@@ -1,0 +1,4 @@
+pub mod Digits
+pub mod ReadRecords
+pub mod Fronts
+pub mod LaneDigits

@@ -1,4 +1,0 @@
-pub mod Replies
-pub mod FittingReplies
-pub mod StoreAnswers
-pub mod FullSeats

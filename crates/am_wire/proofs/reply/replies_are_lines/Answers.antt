@@ -1,7 +1,0 @@
-use Rattle.std.proofs.Common.{refl}
-use Rattle.am_wire.specs.Replies.{words_of}
-use Rattle.am_wire.proofs.Texts.{HasNoLf-words_of}
-use Rattle.am_wire.proofs.reply.replies_are_lines.Goals as goal
-
-pub returns : goal.returns
-returns c = λ reply h. (words_of reply, HasNoLf-words_of reply h, refl)
