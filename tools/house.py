@@ -4,7 +4,8 @@
 Documents name what is there: each name between back-ticks is one of the sources; docs/layers.md has each crate once, with the
 crates that it stands on by crates.txt, but for those that these stand on already; docs/definitions.md has each definition with
 the file that defines it; docs/promises.md has each function that a crate gives out, and docs/DECISIONS.md each decision's date.
-The README is short, and versions, statuses and verbs are the same everywhere.
+The README is short, and versions, statuses and verbs are the same everywhere. Crates stand in groups, a definition has a name of
+its own, and a limit is cited by its name.
 
 Crates are in order: none waits for one that it names nothing of, no lemma stands in two files, none gives out what no other
 takes, no line of code, definitions or proofs is longer than 120 characters, and few files go through all operations. Each file is laid out as `rt fmt` does it, and
@@ -22,6 +23,7 @@ sys.dont_write_bytecode = True
 import crate_rules  # noqa: E402
 import documents  # noqa: E402
 import linters  # noqa: E402
+import name_rules  # noqa: E402
 import promises  # noqa: E402
 import verb_rules  # noqa: E402
 
@@ -35,6 +37,9 @@ RULES: List[Callable[[], Iterator[str]]] = [
     documents.faults_of_length,
     promises.faults,
     verb_rules.faults,
+    name_rules.faults_of_groups,
+    name_rules.faults_of_double_names,
+    name_rules.faults_of_limits,
     crate_rules.faults_of_dependencies,
     crate_rules.faults_of_lemmas,
     crate_rules.faults_of_surface,

@@ -4,7 +4,7 @@ ghost use Rattle.std.specs.Prelude.{◌≡◌, None, Ok, length};
 ghost use Rattle.am_record.specs.declared.step.Step.TheVariants.{Merge};
 ghost use Rattle.am_c_steps.specs.AskedSteps.{clean_asked};
 ghost use Rattle.am_c_steps.specs.Statuses.{status, number};
-ghost use Rattle.am_c_store.specs.StoreSteps.{Tells, Opens, Closes, IsCounted};
+ghost use Rattle.am_c_store.specs.StoreSteps.{Tells, Opens, Closes, IsNumberTold};
 ghost use Rattle.am_c_store.specs.StoreFigures.{TellsFigures};
 
 use am_c_steps::clean_asked;
@@ -64,7 +64,7 @@ pub extern "C" fn tiuvrokk_clean(
 /// How many transactions committed.
 #[unsafe(no_mangle)]
 pub extern "C" fn tiuvrokk_commits(alloc: Global, store: &mut Handle, told: &mut u64) -> u32
-    ensures count { IsCounted (λ p. p.commits) store.old.held result told.new }
+    ensures count { IsNumberTold (λ p. p.commits) store.old.held result told.new }
     ensures kept { store.new.held ≡ store.old.held }
 {
     tell_commits(alloc, store, told)
@@ -73,7 +73,7 @@ pub extern "C" fn tiuvrokk_commits(alloc: Global, store: &mut Handle, told: &mut
 /// How many entries the index has, those marked as deleted too.
 #[unsafe(no_mangle)]
 pub extern "C" fn tiuvrokk_entries(alloc: Global, store: &mut Handle, told: &mut u64) -> u32
-    ensures count { IsCounted (λ p. length p.entries) store.old.held result told.new }
+    ensures count { IsNumberTold (λ p. length p.entries) store.old.held result told.new }
     ensures kept { store.new.held ≡ store.old.held }
 {
     tell_entries(alloc, store, told)

@@ -10,7 +10,7 @@ use Rattle.std.proofs.lemmas.List.Sums.{fails_before_first}
 use Rattle.am_record.specs.Plain.{Records}
 use Rattle.am_c_steps.specs.declared.status.Status.{Status}
 use Rattle.am_c_steps.specs.Texts.{of_both}
-use Rattle.am_c_steps.specs.Lines.{is_lf, lines_in, lines_of, lines_given, wrong_line}
+use Rattle.am_c_steps.specs.Lines.{is_lf, lines_in, text_lines, lines_given, wrong_line}
 
 -- the rest of a slice after a place
 pub behind : (text : List ℕ) (k : ℕ) → take (length text - (k + 1)) (drop (k + 1) text) ≡ drop (k + 1) text
@@ -30,23 +30,23 @@ split_some (b ∷ bs) =
     (λ _. ([], slice_split is_lf bs, refl))
     (λ _. onto_first-cons b (slice_split is_lf bs))
 
-one_line_more : (line text : List ℕ) → lines_in (line ∷ slice_split is_lf text) ≡ line ∷ lines_of text
+one_line_more : (line text : List ℕ) → lines_in (line ∷ slice_split is_lf text) ≡ line ∷ text_lines text
 one_line_more line text =
     let some = split_some text in
     subst (λ (parts : List (List ℕ)). lines_in (line ∷ parts) ≡ line ∷ lines_in parts) (sym some.2) refl
 
 -- the first line ends at the first LF
 pub line_at : (text : List ℕ) (k : ℕ) → position is_lf text ≡ Some k →
-    lines_of text ≡ take k text ∷ lines_of (drop (k + 1) text)
+    text_lines text ≡ take k text ∷ text_lines (drop (k + 1) text)
 line_at text k =
     let place = position_or_len is_lf text in
-    let P : Option ℕ → Type 0 = λ o. o ≡ Some k → lines_of text ≡ take k text ∷ lines_of (drop (k + 1) text) in
+    let P : Option ℕ → Type 0 = λ o. o ≡ Some k → text_lines text ≡ take k text ∷ text_lines (drop (k + 1) text) in
     cond_both (ltb place (length text)) (Some place) None P
     (λ inside found.
     let same : place ≡ k = cc in
     ap lines_in (slice_split_first is_lf text 0 (ltb-true place (length text) inside))
     ∙ one_line_more (take place text) (drop (place + 1) text)
-    ∙ ap (λ (n : ℕ). take n text ∷ lines_of (drop (n + 1) text)) same)
+    ∙ ap (λ (n : ℕ). take n text ∷ text_lines (drop (n + 1) text)) same)
     (λ _ found. cc)
 
 -- the place of an LF is in the text
@@ -63,10 +63,10 @@ last_part [] some = absurd (omega (arith, some))
 last_part (b ∷ bs) some = refl
 
 -- without an LF the text is one line
-pub one_line : (text : List ℕ) → 0 < length text → position is_lf text ≡ None → lines_of text ≡ text ∷ []
+pub one_line : (text : List ℕ) → 0 < length text → position is_lf text ≡ None → text_lines text ≡ text ∷ []
 one_line text some =
     let place = position_or_len is_lf text in
-    cond_both (ltb place (length text)) (Some place) None (λ (o : Option ℕ). o ≡ None → lines_of text ≡ text ∷ [])
+    cond_both (ltb place (length text)) (Some place) None (λ (o : Option ℕ). o ≡ None → text_lines text ≡ text ∷ [])
     (λ _ found. cc)
     (λ past found.
     let end : length text ≤ place = ltb-false place (length text) past in
@@ -80,6 +80,6 @@ join ps qs = Ok (ps ++ qs)
 
 -- the lines in front of the rest are records, these pairs, and there are so many
 pub record IsReading (text : List ℕ) (rest : List ℕ) (number : ℕ) (pairs : Records) : Type 0 where
-  pub given : lines_given (lines_of text) ≡ of_both join (Ok pairs) (lines_given (lines_of rest))
-  pub wrong : wrong_line 1 (lines_of text) ≡ wrong_line (number + 1) (lines_of rest)
+  pub given : lines_given (text_lines text) ≡ of_both join (Ok pairs) (lines_given (text_lines rest))
+  pub wrong : wrong_line 1 (text_lines text) ≡ wrong_line (number + 1) (text_lines rest)
   pub few : number + length rest ≤ length text

@@ -11,7 +11,7 @@ use Rattle.am_record.specs.Plain.{Records}
 use Rattle.am_c_steps.specs.declared.status.Status.TheVariants.{BadKey, BadValue}
 use Rattle.am_c_steps.specs.declared.structs.Layout.{Layout}
 use Rattle.am_c_steps.specs.Texts.{of_both, key_given, value_given}
-use Rattle.am_c_steps.specs.Structs.{key_in, value_in, struct_at, struct_given, structs_given, records_given}
+use Rattle.am_c_steps.specs.Structs.{struct_key, struct_value, struct_at, struct_given, structs_given, records_given}
 use Rattle.am_c_steps.specs.Structs.{IsLayout, AreWholeStructs}
 
 abbrev Pair : Type 0
@@ -53,7 +53,7 @@ stands_at l bytes (suc n) (suc at) d low =
     ∙ stands_at l (drop l.size bytes) n at d (omega arith)
 
 module _ (l : Layout) (sound : IsLayout l) where
-  key_made : (bytes : List ℕ) → l.size ≤ length bytes → key_in l bytes ≡ Ok (record_of l bytes).0
+  key_made : (bytes : List ℕ) → l.size ≤ length bytes → struct_key l bytes ≡ Ok (record_of l bytes).0
   key_made bytes whole =
       let key = take l.key_length (drop l.key_at bytes) in
       ap (λ b. cond b (key_given key) (Err BadKey))
@@ -61,7 +61,7 @@ module _ (l : Layout) (sound : IsLayout l) where
       ∙ ap (λ b. cond b (Ok (key_of key)) (Err BadKey))
       (few_taken l.key_length max_key_bytes (drop l.key_at bytes) sound.key_fits)
 
-  value_made : (bytes : List ℕ) → l.size ≤ length bytes → value_in l bytes ≡ Ok (record_of l bytes).1
+  value_made : (bytes : List ℕ) → l.size ≤ length bytes → struct_value l bytes ≡ Ok (record_of l bytes).1
   value_made bytes whole =
       let value = take l.value_length (drop l.value_at bytes) in
       ap (λ b. cond b (value_given value) (Err BadValue))
@@ -114,5 +114,5 @@ module _ (l : Layout) (bytes : List ℕ) (n : ℕ) (are : AreWholeStructs l byte
       pub record_at : (d : Pair) → struct_given l (struct_at l bytes at) ≡ Ok (get_or records at d)
       record_at d = record_made l are.layout (struct_at l bytes at) whole_at ∙ ap Ok (there d)
 
-      pub key_at : (d : Pair) → key_in l (struct_at l bytes at) ≡ Ok (get_or records at d).0
+      pub key_at : (d : Pair) → struct_key l (struct_at l bytes at) ≡ Ok (get_or records at d).0
       key_at d = key_made l are.layout (struct_at l bytes at) whole_at ∙ ap (λ r. Ok r.0) (there d)

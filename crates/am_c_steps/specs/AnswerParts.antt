@@ -37,9 +37,9 @@ abbrev pub rows_behind : List ℕ → ℕ → List (OrderedKey × List ℕ) → 
 rows_behind key max rows = take max (without_first key rows)
 
 -- the rows that an answer has
-abbrev pub rows_in : Result Reply Status → List (OrderedKey × List ℕ)
-rows_in (Ok (Rows rows)) = rows
-rows_in answer = []
+abbrev pub answer_rows : Result Reply Status → List (OrderedKey × List ℕ)
+answer_rows (Ok (Rows rows)) = rows
+answer_rows answer = []
 
 -- those of the rows that are chosen are written
 abbrev pub rows_told :

@@ -26,8 +26,8 @@ lines_in (part ∷ []) = last_line part
 lines_in (part ∷ next ∷ parts) = part ∷ lines_in (next ∷ parts)
 
 -- the lines of a text: it is split at each LF, and the last line may lack its own
-abbrev pub lines_of : List ℕ → List (List ℕ)
-lines_of text = lines_in (slice_split is_lf text)
+abbrev pub text_lines : List ℕ → List (List ℕ)
+text_lines text = lines_in (slice_split is_lf text)
 
 -- the record of these two, or which of them is too long
 abbrev pub record_of : List ℕ → List ℕ → Result (OrderedKey × List ℕ) Status
@@ -54,10 +54,10 @@ wrong_line n (line ∷ lines) = cond (is_ok (line_given line)) (wrong_line (n + 
 
 -- the records of a text, and the number of its first wrong line
 abbrev pub text_given : List ℕ → Result Records Status
-text_given text = lines_given (lines_of text)
+text_given text = lines_given (text_lines text)
 
 abbrev pub wrong_line_of : List ℕ → ℕ
-wrong_line_of text = wrong_line 1 (lines_of text)
+wrong_line_of text = wrong_line 1 (text_lines text)
 
 -- the line is the first wrong one, or memory was refused
 abbrev pub IsWrong : List ℕ → WrongLine → Type 0

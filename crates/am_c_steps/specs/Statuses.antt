@@ -10,32 +10,32 @@ use Rattle.am_record.specs.declared.step.Reply.TheVariants.{Deleted, NoMark, Ref
 use Rattle.am_c_steps.specs.declared.status.Status.{Status}
 use Rattle.am_c_steps.specs.declared.status.Status.TheVariants as is
 
-abbrev pub code : Status → ℕ
-code is.Fine = 0
-code is.Absent = 1
-code is.Exists = 2
-code is.Busy = 3
-code is.NoTx = 4
-code is.NoMark = 5
-code is.Done = 6
-code is.Idle = 7
-code is.Ended = 8
-code is.TooManyTx = 9
-code is.TooManyLocks = 10
-code is.TooManyOps = 11
-code is.TooManyRuns = 12
-code is.NotRising = 13
-code is.BadLimit = 14
-code is.NoMemory = 15
-code is.SeatFull = 16
-code is.NoStore = 17
-code is.IsOpen = 18
-code is.BadKey = 19
-code is.BadValue = 20
-code is.BadRange = 21
-code is.BadMode = 22
-code is.Twice = 24
-code is.BadLine = 25
+abbrev pub status_code : Status → ℕ
+status_code is.Fine = 0
+status_code is.Absent = 1
+status_code is.Exists = 2
+status_code is.Busy = 3
+status_code is.NoTx = 4
+status_code is.NoMark = 5
+status_code is.Done = 6
+status_code is.Idle = 7
+status_code is.Ended = 8
+status_code is.TooManyTx = 9
+status_code is.TooManyLocks = 10
+status_code is.TooManyOps = 11
+status_code is.TooManyRuns = 12
+status_code is.NotRising = 13
+status_code is.BadLimit = 14
+status_code is.NoMemory = 15
+status_code is.SeatFull = 16
+status_code is.NoStore = 17
+status_code is.IsOpen = 18
+status_code is.BadKey = 19
+status_code is.BadValue = 20
+status_code is.BadRange = 21
+status_code is.BadMode = 22
+status_code is.Twice = 24
+status_code is.BadLine = 25
 
 abbrev pub refusal_status : Refusal → Status
 refusal_status NoSuchTx = is.NoTx
@@ -85,8 +85,8 @@ number_of reply = 0
 
 -- what C is told of an answer
 abbrev pub status : Result Reply Status → ℕ
-status (Ok reply) = code (reply_status reply)
-status (Err why) = code why
+status (Ok reply) = status_code (reply_status reply)
+status (Err why) = status_code why
 
 abbrev pub number : Result Reply Status → ℕ
 number (Ok reply) = number_of reply

@@ -10,20 +10,20 @@ use Rattle.am_c_steps.specs.declared.structs.Layout.{Layout}
 use Rattle.am_c_steps.specs.Texts.{of_both, key_given, value_given}
 
 -- the key of a struct of these bytes
-abbrev pub key_in : Layout → List ℕ → Result OrderedKey Status
-key_in l bytes =
+abbrev pub struct_key : Layout → List ℕ → Result OrderedKey Status
+struct_key l bytes =
     cond (nat_le (l.key_at + l.key_length) (length bytes)) (key_given (take l.key_length (drop l.key_at bytes)))
     (Err BadKey)
 
 -- its value
-abbrev pub value_in : Layout → List ℕ → Result (List ℕ) Status
-value_in l bytes =
+abbrev pub struct_value : Layout → List ℕ → Result (List ℕ) Status
+struct_value l bytes =
     cond (nat_le (l.value_at + l.value_length) (length bytes))
     (value_given (take l.value_length (drop l.value_at bytes))) (Err BadValue)
 
 -- both, or what is wrong with the first that is wrong
 abbrev pub struct_given : Layout → List ℕ → Result (OrderedKey × List ℕ) Status
-struct_given l bytes = of_both (λ key value. Ok (key, value)) (key_in l bytes) (value_in l bytes)
+struct_given l bytes = of_both (λ key value. Ok (key, value)) (struct_key l bytes) (struct_value l bytes)
 
 -- the records of the first so many structs, or what is wrong with the first of them that has none
 abbrev pub structs_given : Layout → List ℕ → ℕ → Result Records Status

@@ -1,7 +1,7 @@
 //! What of an answer C is given beside its status and its number.
 
 ghost use Rattle.std.specs.Prelude.{◌≡◌, ◌≤◌, length};
-ghost use Rattle.am_c_steps.specs.AnswerParts.{all, without_first, rows_behind, rows_in, rows_over};
+ghost use Rattle.am_c_steps.specs.AnswerParts.{all, without_first, rows_behind, answer_rows, rows_over};
 ghost use Rattle.am_c_steps.specs.AnswerParts.{rows_told, count_told, key_told, value_told};
 
 use crate::status::{Status, number_told};
@@ -28,7 +28,7 @@ pub fn tell_key(answer: &Result<Reply, Status>, key: &mut KeyText)
 
 /// Writes the rows of an answer, if it has any, over the first ones. The number that is told.
 pub fn tell_rows(answer: &Result<Reply, Status>, rows: &mut [Record]) -> u64
-    requires { length (rows_in answer.now) ≤ length rows.old }
+    requires { length (answer_rows answer.now) ≤ length rows.old }
     ensures told { result ≡ count_told all answer.now }
     ensures rows { rows.new ≡ rows_told all answer.now rows.old }
 {

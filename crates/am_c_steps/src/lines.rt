@@ -2,7 +2,7 @@
 
 ghost use Rattle.std.specs.Prelude.{◌≡◌, ◌<◌, ◌∷◌, ◌++◌, [], OnOk, IfErr, Ok, length};
 ghost use Rattle.am_c_steps.specs.declared.status.Status.TheVariants.{NoMemory};
-ghost use Rattle.am_c_steps.specs.Lines.{lines_of, record_of, line_given, text_given, wrong_line_of, IsWrong, IsRead};
+ghost use Rattle.am_c_steps.specs.Lines.{text_lines, record_of, line_given, text_given, wrong_line_of, IsWrong, IsRead};
 
 use crate::status::Status;
 use crate::text::{key_given, value_given};
@@ -71,7 +71,7 @@ fn push(pairs: &mut Vec<(Key, Value)>, pair: (Key, Value)) -> Result<(), WrongLi
 // The first line of a text, and what stands after its LF.
 fn first_line(text: &[u8]) -> (&[u8], &[u8])
     requires { 0 < length text.now }
-    ensures line { lines_of text.now ≡ result.0.now ∷ lines_of result.1.now }
+    ensures line { text_lines text.now ≡ result.0.now ∷ text_lines result.1.now }
     ensures fewer { length result.1.now < length text.now }
 {
     match text.iter().position(|byte| *byte == b'\n') {

@@ -1,7 +1,7 @@
 //! What a call answers C.
 
 ghost use Rattle.std.specs.Prelude.{◌≡◌};
-ghost use Rattle.am_c_steps.specs.Statuses.{code, reply_status, refusal_status, number_of, status, number};
+ghost use Rattle.am_c_steps.specs.Statuses.{status_code, reply_status, refusal_status, number_of, status, number};
 
 use am_record::{Refusal, Reply};
 
@@ -42,7 +42,7 @@ impl Status {
     /// The number of the header.
     #[inline(never)]
     pub fn code(self) -> u32
-        ensures { result ≡ code self }
+        ensures { result ≡ status_code self }
     {
         match self {
             Status::Fine => 0,

@@ -4,7 +4,7 @@ ghost use Rattle.std.specs.Prelude.{◌≡◌, ◌≤◌, ◌↔◌, ◌⊎◌, 
 ghost use Rattle.std.specs.Prelude.{IsSome, IfSome, OnOk, IfErr, Ok, Err};
 ghost use Rattle.am_c_steps.specs.declared.status.Status.TheVariants.{NoMemory};
 ghost use Rattle.am_c_steps.specs.AskedSteps.{IsCopied};
-ghost use Rattle.am_c_steps.specs.Structs.{key_in, value_in, struct_given, structs_given, struct_at, IsLayout};
+ghost use Rattle.am_c_steps.specs.Structs.{struct_key, struct_value, struct_given, structs_given, struct_at, IsLayout};
 
 use crate::status::Status;
 use crate::text::{key_given, value_given};
@@ -27,7 +27,7 @@ pub struct Layout {
 impl Layout {
     // The key of a struct, or BadKey where it is too long or doesn't lie within the struct.
     fn key(&self, bytes: &[u8]) -> Result<Key, Status>
-        ensures { result ≡ key_in self.now bytes.now }
+        ensures { result ≡ struct_key self.now bytes.now }
     {
         if !lies_within(self.key_at, self.key_length, bytes.len()) {
             return Err(Status::BadKey);
@@ -37,7 +37,7 @@ impl Layout {
 
     // The value of a struct, or BadValue in the same cases.
     fn value(&self, bytes: &[u8]) -> Result<Value, Status>
-        ensures { result ≡ value_in self.now bytes.now }
+        ensures { result ≡ struct_value self.now bytes.now }
     {
         if !lies_within(self.value_at, self.value_length, bytes.len()) {
             return Err(Status::BadValue);

@@ -11,7 +11,7 @@ use Rattle.am_c_steps.specs.declared.bringing.Bringing.{Bringing}
 use Rattle.am_c_steps.specs.declared.status.Status.{Status}
 use Rattle.am_c_steps.specs.declared.status.Status.TheVariants.{Fine, NoStore, IsOpen, NoMemory}
 use Rattle.am_c_steps.specs.declared.text.Record.{Record}
-use Rattle.am_c_steps.specs.Statuses.{code}
+use Rattle.am_c_steps.specs.Statuses.{status_code}
 use Rattle.am_c_steps.specs.AskedSteps.{AreRecordsAsked}
 
 -- the store took the step, and replied: by what the store owes for each step, so that nothing of that is lost here
@@ -55,15 +55,15 @@ pub record IsNew (p : StoreState) : Type 0 where
 
 -- a store is opened where there is none, or memory is refused; where there is one, it stays
 abbrev pub Opens : Option StoreState → ℕ → Option StoreState → Type 0
-Opens (Some p) told held = (told ≡ code IsOpen) × (held ≡ Some p)
-Opens None told (Some p) = (told ≡ code Fine) × IsNew p
-Opens None told None = told ≡ code NoMemory
+Opens (Some p) told held = (told ≡ status_code IsOpen) × (held ≡ Some p)
+Opens None told (Some p) = (told ≡ status_code Fine) × IsNew p
+Opens None told None = told ≡ status_code NoMemory
 
 abbrev pub Closes : Option StoreState → ℕ → Type 0
-Closes (Some p) told = told ≡ code Fine
-Closes None told = told ≡ code NoStore
+Closes (Some p) told = told ≡ status_code Fine
+Closes None told = told ≡ status_code NoStore
 
 -- the number is told, where there is a store
-abbrev pub IsCounted : (StoreState → ℕ) → Option StoreState → ℕ → ℕ → Type 0
-IsCounted count (Some p) told n = (told ≡ code Fine) × (n ≡ count p)
-IsCounted count None told n = (told ≡ code NoStore) × (n ≡ 0)
+abbrev pub IsNumberTold : (StoreState → ℕ) → Option StoreState → ℕ → ℕ → Type 0
+IsNumberTold count (Some p) told n = (told ≡ status_code Fine) × (n ≡ count p)
+IsNumberTold count None told n = (told ≡ status_code NoStore) × (n ≡ 0)

@@ -1,7 +1,7 @@
 //! A store is opened and closed, and counted.
 
 ghost use Rattle.std.specs.Prelude.{◌≡◌, None, IfOk, length};
-ghost use Rattle.am_c_store.specs.StoreSteps.{Opens, IsNew, Closes, IsCounted};
+ghost use Rattle.am_c_store.specs.StoreSteps.{Opens, IsNew, Closes, IsNumberTold};
 
 use crate::handle::Handle;
 use am_c_steps::Status;
@@ -50,7 +50,7 @@ pub fn close_store(alloc: Global, store: &mut Handle) -> u32
 
 /// How many transactions committed.
 pub fn tell_commits(alloc: Global, store: &mut Handle, told: &mut u64) -> u32
-    ensures count { IsCounted (λ p. p.commits) store.old.held result told.new }
+    ensures count { IsNumberTold (λ p. p.commits) store.old.held result told.new }
     ensures kept { store.new.held ≡ store.old.held }
 {
     let Some(open) = store.take(alloc) else {
@@ -64,7 +64,7 @@ pub fn tell_commits(alloc: Global, store: &mut Handle, told: &mut u64) -> u32
 
 /// How many entries the index has, those marked as deleted too.
 pub fn tell_entries(alloc: Global, store: &mut Handle, told: &mut u64) -> u32
-    ensures count { IsCounted (λ p. length p.entries) store.old.held result told.new }
+    ensures count { IsNumberTold (λ p. length p.entries) store.old.held result told.new }
     ensures kept { store.new.held ≡ store.old.held }
 {
     let Some(open) = store.take(alloc) else {

@@ -23,7 +23,7 @@ use Rattle.am_index.specs.Places.{AllBelow, NoneBelow, AllAbove, IsGapFor}
 use Rattle.am_index.proofs.Insertions.{AllFree, free_before, all_of_both, rising_all_inserted}
 use Rattle.am_index.proofs.Lists.{entry_at-append, below_itself, rising_back, rising_remove}
 use Rattle.am_index_btree.specs.declared.separator.Separator.{Separator}
-use Rattle.am_index_btree.specs.EntriesBetween.{is_below, IsFrom, GoesAmong}
+use Rattle.am_index_btree.specs.EntriesBetween.{is_below, IsAtOrAbove, GoesAmong}
 use Rattle.am_index_btree.specs.Shape.{Shape}
 use Rattle.am_index_btree.specs.Rooms.{IsRoomed}
 use Rattle.am_index_btree.specs.Separators.{separator_place, SeparatorsRise}
@@ -57,7 +57,7 @@ not_reached Less h = absurd (cc h)
 not_reached Equal h = absurd (cc h)
 not_reached Greater h = refl
 
-below_bound : (bound : Option Separator) (x : Entry) (m : Place) → is_below bound x ≡ true → IsFrom bound m →
+below_bound : (bound : Option Separator) (x : Entry) (m : Place) → is_below bound x ≡ true → IsAtOrAbove bound m →
     place_cmp (place_of x) m ≡ Less
 below_bound None x m low from = absurd from
 below_bound (Some b) x m low from = below_from (place_of x) (separator_place b) m
@@ -85,7 +85,7 @@ module _ (es : List Entry) (bound : Option Separator) (xs : List Entry) (among :
       (AllByRecursion-map (GoesAmong es bound) (λ e. place_cmp (place_of e) l ≢ Less)
       (λ x b less. absurd (cc (turned_less l (place_of x) (b.above l none)))) xs among) none
 
-  pub all_below_among : (m : Place) → AllBelow m es → IsFrom bound m → AllBelow m (all_inserted xs es)
+  pub all_below_among : (m : Place) → AllBelow m es → IsAtOrAbove bound m → AllBelow m (all_inserted xs es)
   all_below_among m all from = all_of_both (λ e. place_cmp (place_of e) m ≡ Less) xs es
       (AllByRecursion-map (GoesAmong es bound) (λ e. place_cmp (place_of e) m ≡ Less) (λ x b. b.below m all from) xs
       among) all
@@ -121,13 +121,13 @@ each_above es (y ∷ ys) rising = (below_itself es y ys rising, each_above es ys
 
 -- entries from the bound on
 abbrev AreFrom : Option Separator → List Entry → Type 0
-AreFrom bound ys = AllByRecursion (λ y. IsFrom bound (place_of y)) ys
+AreFrom bound ys = AllByRecursion (λ y. IsAtOrAbove bound (place_of y)) ys
 
 -- those after, from the bound on, are above what goes among the others
 above_among : (es ys : List Entry) (bound : Option Separator) (x : Entry) → IsRising (es ++ ys) → AreFrom bound ys →
     GoesAmong es bound x → AllAbove (place_of x) ys
 above_among es ys bound x rising from b =
-    all_both (λ y. AllBelow (place_of y) es) (λ y. IsFrom bound (place_of y))
+    all_both (λ y. AllBelow (place_of y) es) (λ y. IsAtOrAbove bound (place_of y))
     (λ y. place_cmp (place_of y) (place_of x) ≡ Greater)
     (λ y below out. turned_less (place_of x) (place_of y) (b.below (place_of y) below out)) ys
     (each_above es ys rising) from
@@ -192,7 +192,7 @@ entries_among (c ∷ ks) (suc i) k k' lt here rising end from xs among h =
 
 parted_among : (ls : List Separator) (ks : List Shape) (i : ℕ) (k k' : Shape) → AreParted ls ks → i < length ks →
     k ≡ get_or ks i k → (end : Option Separator) →
-    AllByRecursion (λ m. IsFrom end (separator_place m)) (drop (suc i) ls) → (xs : List Entry) →
+    AllByRecursion (λ m. IsAtOrAbove end (separator_place m)) (drop (suc i) ls) → (xs : List Entry) →
     AreAmong k.entries end xs → k'.entries ≡ all_inserted xs k.entries → AreParted ls (set ks i k')
 parted_among ls [] i k k' a lt here end from xs among h = absurd (omega arith)
 parted_among [] (c ∷ ks) i k k' a lt here end from xs among h = absurd (omega (arith, a))
@@ -202,7 +202,7 @@ parted_among (l ∷ ls) (c ∷ ks) zero k k' a lt here end from xs among h =
     let later : AllByRecursion (λ m. AllBelow (separator_place m) k.entries) ls =
     subst (λ (s : Shape). AllByRecursion (λ m. AllBelow (separator_place m) s.entries) ls) (sym here) a.1 in (
       subst (NoneBelow (separator_place l)) (sym h) (none_below_among k.entries end xs among (separator_place l) own),
-      all_both (λ m. AllBelow (separator_place m) k.entries) (λ m. IsFrom end (separator_place m))
+      all_both (λ m. AllBelow (separator_place m) k.entries) (λ m. IsAtOrAbove end (separator_place m))
           (λ m. AllBelow (separator_place m) k'.entries)
           (λ m b out. subst (AllBelow (separator_place m)) (sym h)
           (all_below_among k.entries end xs among (separator_place m) b out)) ls later from,
@@ -216,13 +216,14 @@ parted_among (l ∷ ls) (c ∷ ks) (suc i) k k' a lt here end from xs among h =
 -- what follows the child lies from its bound on, and so does what lies after all of the node and from its bound on
 pub record IsEnd (ls : List Separator) (ks : List Shape) (i : ℕ) (bound end : Option Separator) : Type 0 where
   entries : AreFrom end (all_entries (drop (suc i) ks))
-  separators : AllByRecursion (λ m. IsFrom end (separator_place m)) (drop (suc i) ls)
-  outer : (m : Place) → AllBelow m (all_entries ks) → IsFrom bound m → IsFrom end m
+  separators : AllByRecursion (λ m. IsAtOrAbove end (separator_place m)) (drop (suc i) ls)
+  outer : (m : Place) → AllBelow m (all_entries ks) → IsAtOrAbove bound m → IsAtOrAbove end m
 
 from_first : (ls : List Separator) (s : Separator) → s ≡ get_or ls 0 s → SeparatorsRise ls →
-    AllByRecursion (λ m. IsFrom (Some s) (separator_place m)) ls
+    AllByRecursion (λ m. IsAtOrAbove (Some s) (separator_place m)) ls
 from_first [] s here rise = tt
-from_first (l ∷ ls) s here rise = subst (λ (x : Separator). AllByRecursion (λ m. IsFrom (Some x) (separator_place m))
+from_first (l ∷ ls) s here rise = subst (λ (x : Separator). AllByRecursion
+    (λ m. IsAtOrAbove (Some x) (separator_place m))
     (l ∷ ls)) (sym here) (
       (λ less. absurd (cc (turned_less (separator_place l) (separator_place l) less, less))),
       AllByRecursion-map (λ m. place_cmp (separator_place l) (separator_place m) ≡ Less)
@@ -237,7 +238,7 @@ module _ (ls : List Separator) (ks : List Shape) (rk : ℕ) (inner : IsInner ls 
     entries = subst (λ (l : List Shape). AreFrom bound (all_entries l))
         (sym (drop_all (suc i) ks (omega (arith, last))))
         tt;
-    separators = subst (AllByRecursion (λ m. IsFrom bound (separator_place m)))
+    separators = subst (AllByRecursion (λ m. IsAtOrAbove bound (separator_place m)))
         (sym (drop_all (suc i) ls (omega (arith, last, as_many ls ks rk inner)))) tt;
     outer = λ m all from. from;
   }

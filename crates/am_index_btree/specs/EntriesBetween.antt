@@ -16,15 +16,15 @@ is_below None x = true
 is_below (Some bound) x = not (is_le (place_cmp (separator_place bound) (place_of x)))
 
 -- the place is the bound or above it; without one no place is
-abbrev pub IsFrom : Option Separator → Place → Type 0
-IsFrom None m = ⊥
-IsFrom (Some bound) m = place_cmp m (separator_place bound) ≢ Less
+abbrev pub IsAtOrAbove : Option Separator → Place → Type 0
+IsAtOrAbove None m = ⊥
+IsAtOrAbove (Some bound) m = place_cmp m (separator_place bound) ≢ Less
 
 -- the entry goes among them, after one of them and below the bound: it is above each place that none of them is below,
 -- and below each that all are below and that lies from the bound on
 pub record GoesAmong (es : List Entry) (bound : Option Separator) (x : Entry) : Type 0 where
   pub above : (l : Place) → NoneBelow l es → place_cmp l (place_of x) ≡ Less
-  pub below : (m : Place) → AllBelow m es → IsFrom bound m → place_cmp (place_of x) m ≡ Less
+  pub below : (m : Place) → AllBelow m es → IsAtOrAbove bound m → place_cmp (place_of x) m ≡ Less
 
 -- the entry was put among those of a leaf, where nothing stood
 pub record IsPut (old new : Seen) (bound : Option Separator) (x : Entry) : Type 0 where

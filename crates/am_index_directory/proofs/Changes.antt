@@ -5,7 +5,8 @@ use Rattle.std.proofs.Common.{sym, ap, ◌∙◌, subst, arith}
 use Rattle.std.proofs.lemmas.Bool.{ne_eqb, cases_eq, cases_lt}
 use Rattle.std.proofs.lemmas.List.{length-set, get_or-set_same, get_or-set_other}
 use Rattle.std.proofs.lemmas.List.Sums.{sum_by-set}
-use Rattle.am_index_directory.specs.Tables.{label, code, code_of, home_index, empty_in, IsBefore, IsPassed, IsComeTo}
+use Rattle.am_index_directory.specs.Tables.{label, word_code, code_of, home_index, empty_in, IsBefore, IsPassed}
+use Rattle.am_index_directory.specs.Tables.{IsComeTo}
 use Rattle.am_index_directory.specs.Tables.{IsEnd}
 use Rattle.am_index_directory.specs.Tables.{IsTable, HasPutWord}
 use Rattle.am_index_directory.proofs.Looks.{Stands, Lacks, has_or_lacks, code_of-none, code_of-end}
@@ -48,7 +49,7 @@ end_once words sought at i end come stands = ⊎_elim
 
 -- a word that stands in place has the code that is found for its label
 pub code_of-stands : (words : List ℕ) (sought at : ℕ) → InPlace words → Stands words sought at →
-    code_of words sought ≡ code (get_or words at 0)
+    code_of words sought ≡ word_code (get_or words at 0)
 code_of-stands words sought at placed stands =
     code_of-end words sought at (record {
       come = subst (λ (l : ℕ). IsComeTo words l at) stands.here (placed at stands.within stands.some);
@@ -119,8 +120,8 @@ module _ (words : List ℕ) (at word : ℕ) (placed : InPlace words) (end : IsEn
       here = λ n. ap label now;
     }
 
-    pub code_now : code_of after (label word) ≡ code word
-    code_now = code_of-end after (label word) at end_now ∙ ap code now
+    pub code_now : code_of after (label word) ≡ word_code word
+    code_now = code_of-end after (label word) at end_now ∙ ap word_code now
 
     -- no other word is of its label
     other_label : (i : ℕ) → i < length words → i ≢ at → get_or words i 0 ≢ 0 → label word ≢ label (get_or words i 0)
@@ -145,7 +146,7 @@ module _ (words : List ℕ) (at word : ℕ) (placed : InPlace words) (end : IsEn
         (λ (has : (i : ℕ) × Stands after sought i).
         let i = has.0 in let stands = has.1 in
         let apart : i ≢ at = λ same. other (sym stands.here ∙ ap label (ap (λ (k : ℕ). get_or after k 0) same ∙ now)) in
-        code_of-stands after sought i placed_now stands ∙ ap code (still i apart) ∙
+        code_of-stands after sought i placed_now stands ∙ ap word_code (still i apart) ∙
         sym (code_of-stands words sought i placed (record {
           within = subst (λ (n : ℕ). i < n) long stands.within;
           some = subst (λ (w : ℕ). w ≢ 0) (still i apart) stands.some;

@@ -9,20 +9,20 @@ use Rattle.std.proofs.lemmas.List.{length-replicate, get_or-replicate, take_all}
 use Rattle.std.proofs.lemmas.List.Folds.{sum_by-replicate}
 use Rattle.std.proofs.lemmas.List.Sums.{count_by_more_yes, count_by_more_no, sum_by-cons, sum_by-take-le}
 use Rattle.std.proofs.Math.Nat.{mul-le-mul_left}
-use Rattle.am_index_directory.specs.Tables.{label, code, code_of, empty_in, kept, residence_by, HasPutWord}
+use Rattle.am_index_directory.specs.Tables.{label, word_code, code_of, empty_in, kept, residence_by, HasPutWord}
 use Rattle.am_index_directory.specs.Room.{words_for, HasSpare, IsRoomier, TellsAs}
 use Rattle.am_index_directory.proofs.Looks.{Stands, Lacks, has_or_lacks, code_of-none}
 use Rattle.am_index_directory.proofs.Changes.{InPlace, one_if, at_most_one, code_of-stands}
 use Rattle.am_index_directory.proofs.Residences.{none_by}
 
 abbrev pub is_kept : ℕ → Bool
-is_kept word = leb 2 (code word)
+is_kept word = leb 2 (word_code word)
 
 -- the new table has what is to be kept of the first so many words of the old one, and no more
 pub record Carries (keep : ℕ → Bool) (old : List ℕ) (count : ℕ) (new : List ℕ) : Type 0 where
   pub room : length new ≤ empty_in new + count_by keep (take count old)
   pub told : (i : ℕ) → i < count → i < length old → keep (get_or old i 0) ≡ true →
-      code_of new (label (get_or old i 0)) ≡ code (get_or old i 0)
+      code_of new (label (get_or old i 0)) ≡ word_code (get_or old i 0)
   pub only : (sought : ℕ) → (code_of new sought ≡ 0) ⊎ (code_of new sought ≡ code_of old sought)
 
 pub carries_none : (keep : ℕ → Bool) (old new : List ℕ) (n : ℕ) → new ≡ replicate n 0 → Carries keep old 0 new
@@ -41,7 +41,7 @@ kept_some word keep = λ e. true≢false (sym keep ∙ ap is_kept e)
 
 -- it has the code that is found for its label
 found : (old : List ℕ) (i : ℕ) → InPlace old → i < length old → is_kept (get_or old i 0) ≡ true →
-    code_of old (label (get_or old i 0)) ≡ code (get_or old i 0)
+    code_of old (label (get_or old i 0)) ≡ word_code (get_or old i 0)
 found old i placed within keep = code_of-stands old (label (get_or old i 0)) i placed
     (record { within = within; some = kept_some (get_or old i 0) keep; here = refl })
 
@@ -103,14 +103,14 @@ module _ (keep : ℕ → Bool) (some : (w : ℕ) → keep w ≡ true → is_kept
         (λ (none : code_of new sought ≡ 0). ⊎_elim
         (λ (has : (i : ℕ) × Stands old sought i).
         let i = has.0 in let stands = has.1 in
-        let here : code_of old sought ≡ code (get_or old i 0) = code_of-stands old sought i placed stands in
+        let here : code_of old sought ≡ word_code (get_or old i 0) = code_of-stands old sought i placed stands in
         let within = stands.within in
         ⊎_elim
         (λ (it : is_kept (get_or old i 0) ≡ true).
         ap residence_by (ap (code_of new) (sym stands.here) ∙
         carries.told i (omega arith) within (theirs (get_or old i 0) stands.here it) ∙ sym here))
         (λ (out : is_kept (get_or old i 0) ≡ false).
-        let small : code (get_or old i 0) < 2 = grind (arith, nat_tests) in
+        let small : word_code (get_or old i 0) < 2 = grind (arith, nat_tests) in
         none_by (code_of new sought) (omega arith) ∙ sym (none_by (code_of old sought) (omega arith)))
         (cases_Bool (is_kept (get_or old i 0))))
         (λ (lacks : Lacks old sought). ap residence_by (none ∙ sym (code_of-none old sought lacks)))

@@ -8,15 +8,16 @@ use Rattle.std.proofs.lemmas.Slice.{between_to_end}
 use Rattle.std.proofs.lemmas.Bool.{cases_eq, cases_lt}
 use Rattle.std.proofs.lemmas.Bool.Decides.{nat_tests}
 use Rattle.std.proofs.lemmas.List.{get_or_append_left, get_or-append-add, get_or-take, get_or-drop}
-use Rattle.am_index_directory.specs.Tables.{label, code, code_on, code_of, way_from, home_index, IsPassed, ArePassed}
+use Rattle.am_index_directory.specs.Tables.{label, word_code, code_on, code_of, way_from, home_index, IsPassed}
+use Rattle.am_index_directory.specs.Tables.{ArePassed}
 use Rattle.am_index_directory.specs.Tables.{IsEnd}
-use Rattle.am_index_directory.specs.Tables.{IsFirstEnd, empty_in, is_free}
+use Rattle.am_index_directory.specs.Tables.{IsFirstEnd, empty_in, home_is_free}
 
 -- a word at which a look for the label ends
 abbrev pub Ends : ℕ → ℕ → Type 0
 Ends sought word = word ≢ 0 → label word ≡ sought
 
-ends_code : (word sought : ℕ) (words : List ℕ) → Ends sought word → code_on (word ∷ words) sought ≡ code word
+ends_code : (word sought : ℕ) (words : List ℕ) → Ends sought word → code_on (word ∷ words) sought ≡ word_code word
 ends_code word sought words h = ⊎_elim
     (λ (e : word ≡ 0). grind (arith, nat_tests))
     (λ (n : word ≢ 0). let e = h n in grind (arith, nat_tests))
@@ -28,7 +29,7 @@ other_code word sought words some other = grind (arith, nat_tests)
 
 -- the word at which a look ends has the code that it finds
 code_on-end : (words : List ℕ) (sought at : ℕ) → at < length words → ArePassed sought words at →
-    Ends sought (get_or words at 0) → code_on words sought ≡ code (get_or words at 0)
+    Ends sought (get_or words at 0) → code_on words sought ≡ word_code (get_or words at 0)
 code_on-end [] sought at lt passed here = absurd (omega arith)
 code_on-end (word ∷ words) sought zero lt passed here = ends_code word sought words here
 code_on-end (word ∷ words) sought (suc at) lt passed here =
@@ -43,7 +44,7 @@ Lacks words sought = (i : ℕ) → i < length words → get_or words i 0 ≢ 0 �
 code_on-none : (words : List ℕ) (sought : ℕ) → Lacks words sought → code_on words sought ≡ 0
 code_on-none [] sought none = refl
 code_on-none (word ∷ words) sought none = ⊎_elim
-    (λ (e : word ≡ 0). ends_code word sought words (λ n. absurd (n e)) ∙ ap code e)
+    (λ (e : word ≡ 0). ends_code word sought words (λ n. absurd (n e)) ∙ ap word_code e)
     (λ (n : word ≢ 0). other_code word sought words n (none 0 (omega arith) n) ∙
     code_on-none words sought (λ i h. none (suc i) (omega arith)))
     (cases_eq word 0)
@@ -110,7 +111,7 @@ code_of-none words sought none =
 
 -- where a look ends in the table, it finds the code of the word there
 pub code_of-end : (words : List ℕ) (sought at : ℕ) → IsEnd words sought at →
-    code_of words sought ≡ code (get_or words at 0)
+    code_of words sought ≡ word_code (get_or words at 0)
 unfolding code_of
 code_of-end words sought at end =
     let home = home_index (length words) sought in
@@ -124,7 +125,7 @@ code_of-end words sought at end =
     code_on-end way sought (at - home) (omega (arith, length-drop home words))
     (λ i before. subst (IsPassed sought) (sym (way-front home i words (omega arith)))
     (end.come.before (home + i) (omega arith) (λ p. omega arith, λ p. omega arith, λ p q. absurd (omega arith))))
-    (subst (Ends sought) (sym here) end.here) ∙ ap code here)
+    (subst (Ends sought) (sym here) end.here) ∙ ap word_code here)
     (λ (h : at < home).
     let front = length (drop home words) in
     let here : get_or way (front + at) 0 ≡ get_or words at 0 = way-back home at words h in
@@ -140,11 +141,11 @@ code_of-end words sought at end =
     subst (IsPassed sought) (sym back) (end.come.before (i - front) (omega arith)
     (λ p. absurd (omega arith), λ p. absurd (omega arith), λ p q. omega arith)))
     (cases_lt i front))
-    (subst (Ends sought) (sym here) end.here) ∙ ap code here)
+    (subst (Ends sought) (sym here) end.here) ∙ ap word_code here)
     (elim (cases_lt at home) as (λ _. (home ≤ at) ⊎ (at < home)) [ inl p ↦ inr p | inr q ↦ inl q ])
 
 -- where it ends at once, it finds none
-pub code_of-free : (words : List ℕ) (sought : ℕ) → is_free words sought ≡ true → code_of words sought ≡ 0
+pub code_of-free : (words : List ℕ) (sought : ℕ) → home_is_free words sought ≡ true → code_of words sought ≡ 0
 code_of-free words sought free = ⊎_elim
     (λ (h : home_index (length words) sought < length words).
     let home = home_index (length words) sought in
@@ -155,16 +156,16 @@ code_of-free words sought free = ⊎_elim
         before = λ i lt b. absurd (omega (arith, b.0 (omega arith), b.1 (omega arith)));
       };
       here = λ some. absurd (some empty);
-    }) ∙ ap code empty)
+    }) ∙ ap word_code empty)
     (λ (h : length words ≤ home_index (length words) sought). absurd (grind (arith, nat_tests)))
     (cases_lt (home_index (length words) sought) (length words))
 
 -- so does the word that was read there
 pub code_of-read : (items words : List ℕ) (sought at word : ℕ) → items ≡ words → word ≡ get_or items at word →
-    IsEnd words sought at → code word ≡ code_of words sought
+    IsEnd words sought at → word_code word ≡ code_of words sought
 code_of-read items words sought at word same read end =
     let within = subst (λ (l : List ℕ). at < length l) (sym same) end.come.within in
-    ap code (read ∙ get_or_default_zero items at word within ∙ ap (λ (l : List ℕ). get_or l at 0) same) ∙
+    ap word_code (read ∙ get_or_default_zero items at word within ∙ ap (λ (l : List ℕ). get_or l at 0) same) ∙
     sym (code_of-end words sought at end)
 
 -- where all words are passed, none is empty

@@ -6,7 +6,7 @@ use Rattle.std.proofs.lemmas.Bool.{cases_eq, ne_eqb}
 use Rattle.std.proofs.lemmas.Bool.Decides.{nat_tests}
 use Rattle.std.proofs.lemmas.List.{get_or-set_same, get_or-set_other}
 use Rattle.std.proofs.lemmas.List.Sums.{sum_by-cons, sum_by-set}
-use Rattle.am_index_directory.specs.Tables.{Tables, label, code, empty_in, kept, piece_of, piece_index, HasPutIn}
+use Rattle.am_index_directory.specs.Tables.{Tables, label, word_code, empty_in, kept, piece_of, piece_index, HasPutIn}
 use Rattle.am_index_directory.specs.Room.{HasRoomForAll}
 use Rattle.am_index_directory.specs.Found.{IsFound}
 use Rattle.am_index_directory.specs.declared.piece.Found.{Found}
@@ -23,11 +23,11 @@ found_some words sought f found some = λ e. omega (
   some,
   found.code,
   code_of-end words sought f.at found.end,
-  ap code e,
+  ap word_code e,
 )
 
 pub found_code : (words : List ℕ) (sought : ℕ) (f : Found) → IsFound words sought f →
-    code (get_or words f.at 0) ≡ f.code
+    word_code (get_or words f.at 0) ≡ f.code
 found_code words sought f found = sym (code_of-end words sought f.at found.end) ∙ sym found.code
 
 -- ---- room

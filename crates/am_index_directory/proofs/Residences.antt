@@ -8,8 +8,10 @@ use Rattle.std.proofs.lemmas.List.Folds.{list_all_at}
 use Rattle.std.proofs.lemmas.Bool.Decides.{nat_tests}
 use Rattle.am_index_directory.specs.declared.residence.Residence.{Residence}
 use Rattle.am_index_directory.specs.declared.residence.Residence.TheVariants.{Nowhere, In, Unknown}
-use Rattle.am_index_directory.specs.Tables.{Tables, label, code, code_of, code_in, piece_of, residence_by, residence_of}
-use Rattle.am_index_directory.specs.Tables.{left, HasPutIn, HasLeft, is_free, are_free, code_left, code_let_go, HasCode}
+use Rattle.am_index_directory.specs.Tables.{Tables, label, word_code, code_of, code_in, piece_of, residence_by}
+use Rattle.am_index_directory.specs.Tables.{residence_of}
+use Rattle.am_index_directory.specs.Tables.{once_left, HasPutIn, HasLeft, home_is_free, are_free, code_left}
+use Rattle.am_index_directory.specs.Tables.{code_let_go, HasCode}
 use Rattle.am_index_directory.proofs.Looks.{code_of-free, code_of-none}
 
 pub residence_of-lost : (table : Tables) (n : ℕ) → table.is_lost ≡ true → residence_of table n ≡ Unknown
@@ -35,7 +37,7 @@ residence_of-empty table n whole empty none = residence_of-code table n whole �
 -- where looks for all of the numbers end at once, no label of theirs has a word, and nothing is known of them
 module _ (table : Tables) (numbers : List ℕ) (free : are_free table numbers ≡ true) where
   free_at : ℕ → Bool
-  free_at n = is_free (piece_of table (label n)) (label n)
+  free_at n = home_is_free (piece_of table (label n)) (label n)
 
   all_free : Bool
   all_free = list_all free_at numbers
@@ -71,7 +73,7 @@ others_told old new at word lost put n other =
 pub own_told : (old new : Tables) (number at word : ℕ) (change : Residence → Residence) →
     new.is_lost ≡ old.is_lost → HasPutIn old at word new → label word ≡ label number →
     change Unknown ≡ Unknown →
-    residence_by (code word) ≡ change (residence_by (code_in old (label number))) →
+    residence_by (word_code word) ≡ change (residence_by (code_in old (label number))) →
     (n : ℕ) → label n ≡ label number → residence_of new n ≡ change (residence_of old n)
 own_told old new number at word change lost put same unknown told n here = ⊎_elim
     (λ (gone : old.is_lost ≡ true). residence_of-lost new n (lost ∙ gone) ∙ sym unknown ∙
@@ -95,31 +97,32 @@ run_by c ge =
     let other : eqb c 3 ≡ false = ne_eqb c 3 (λ e. omega arith) in
     (λ j. cond (test j) Nowhere (cond (other j) Unknown (In (c - 4))))
 
-pub left_asleep : (c : ℕ) → 4 ≤ c → Nowhere ≡ left (residence_by c)
-left_asleep c ge = ap left (sym (run_by c ge))
+pub left_asleep : (c : ℕ) → 4 ≤ c → Nowhere ≡ once_left (residence_by c)
+left_asleep c ge = ap once_left (sym (run_by c ge))
 
-left_same : (c : ℕ) → c < 4 → residence_by c ≡ left (residence_by c)
+left_same : (c : ℕ) → c < 4 → residence_by c ≡ once_left (residence_by c)
 left_same c lt = ⊎_elim
-    (λ (e : c ≡ 3). unknown_by c e ∙ ap left (sym (unknown_by c e)))
-    (λ (n : c ≢ 3). none_by c (omega arith) ∙ ap left (sym (none_by c (omega arith))))
+    (λ (e : c ≡ 3). unknown_by c e ∙ ap once_left (sym (unknown_by c e)))
+    (λ (n : c ≢ 3). none_by c (omega arith) ∙ ap once_left (sym (none_by c (omega arith))))
     (cases_eq c 3)
 
 -- where no key of the label is live in a run, none leaves
 pub none_leaves : (table : Tables) (number : ℕ) → code_in table (label number) < 4 → HasLeft table number table
 none_leaves table number none = record {
   left = λ n here. ⊎_elim
-      (λ (gone : table.is_lost ≡ true). residence_of-lost table n gone ∙ ap left (sym (residence_of-lost table n gone)))
+      (λ (gone : table.is_lost ≡ true). residence_of-lost table n gone ∙
+      ap once_left (sym (residence_of-lost table n gone)))
       (λ (whole : table.is_lost ≡ false).
       let told = residence_of-code table n whole in
       told ∙ left_same (code_in table (label n))
-      (subst (λ (l : ℕ). code_in table l < 4) (sym here) none) ∙ ap left (sym told))
+      (subst (λ (l : ℕ). code_in table l < 4) (sym here) none) ∙ ap once_left (sym told))
       (cases_Bool table.is_lost);
   others = λ n other. refl;
 }
 
 -- the codes of the others stay, and that of the label is the word's
 pub has_code : (old new : Tables) (number at word : ℕ) (Is : ℕ → Type 0) → HasPutIn old at word new →
-    label word ≡ label number → Is (code word) → HasCode old number Is new
+    label word ≡ label number → Is (word_code word) → HasCode old number Is new
 has_code old new number at word Is put same is = record {
   now = subst Is (sym (ap (code_in new) (sym same) ∙ put.now)) is;
   others = λ sought other. put.others sought (λ e. other (e ∙ same));

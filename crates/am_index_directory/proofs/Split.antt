@@ -7,7 +7,7 @@ use Rattle.std.proofs.lemmas.Bool.{and_from, and_parts, cases_Bool, cases_eq, ne
 use Rattle.std.proofs.lemmas.List.{get_or_default, get_or-set_same, get_or-set_other, get_or-replicate}
 use Rattle.std.proofs.lemmas.List.{length-set, length-replicate, take_all}
 use Rattle.std.proofs.lemmas.List.Sums.{count_by-le-length, sum_by-append, sum_by-cons}
-use Rattle.am_index_directory.specs.Tables.{label, code, code_of, empty_in, kept_by, HasPutWord}
+use Rattle.am_index_directory.specs.Tables.{label, word_code, code_of, empty_in, kept_by, HasPutWord}
 use Rattle.am_index_directory.specs.Room.{Counts, words_for, AreCounted, HasSpare, TellsAs}
 use Rattle.am_index_directory.proofs.Changes.{InPlace, one_if}
 use Rattle.am_index_directory.proofs.Copies.{is_kept, words_enough, Carries, carries_none, carries_put, carries_skip}
@@ -16,7 +16,7 @@ use Rattle.am_index_directory.proofs.PieceOf.{eqb-same}
 
 -- it is to be kept, and belongs to the piece
 abbrev pub is_kept_by : ℕ → ℕ → Bool
-is_kept_by piece word = leb 2 (code word) && eqb (label word % 256) piece
+is_kept_by piece word = leb 2 (word_code word) && eqb (label word % 256) piece
 
 -- ---- counts
 

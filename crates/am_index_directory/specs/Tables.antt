@@ -17,8 +17,8 @@ abbrev pub label : ℕ → ℕ
 label n = n / 2 ^ 17
 
 -- the code of a word, its lower bits
-abbrev pub code : ℕ → ℕ
-code word = word % 2 ^ 17
+abbrev pub word_code : ℕ → ℕ
+word_code word = word % 2 ^ 17
 
 -- where a look for the label begins, in a table of so many words
 abbrev pub home_index : ℕ → ℕ → ℕ
@@ -28,7 +28,7 @@ home_index count sought = sought / 2 ^ 15 * count / 2 ^ 32
 abbrev pub code_on : List ℕ → ℕ → ℕ
 code_on [] sought = 0
 code_on (word ∷ words) sought =
-    if word == 0 then 0 else (if label word == sought then code word else code_on words sought)
+    if word == 0 then 0 else (if label word == sought then word_code word else code_on words sought)
 
 -- the words in the order of a look that begins at a place: from there to the end, and then from the begin
 abbrev pub way_from : ℕ → List ℕ → List ℕ
@@ -60,15 +60,15 @@ unfoldable pub residence_of : Tables → ℕ → Residence
 residence_of tables n = if tables.is_lost then Unknown else residence_by (code_in tables (label n))
 
 -- a look for the label ends where it begins, since no word stands there
-abbrev pub is_free : List ℕ → ℕ → Bool
-is_free words sought =
+abbrev pub home_is_free : List ℕ → ℕ → Bool
+home_is_free words sought =
     let home = home_index (length words) sought in
     if nat_lt home (length words) then slice_index words home == 0 else false
 
 -- so do the looks for all of these numbers
 abbrev pub are_free : Tables → List ℕ → Bool
 are_free tables numbers =
-    if tables.is_lost then false else list_all (λ n. is_free (piece_of tables (label n)) (label n)) numbers
+    if tables.is_lost then false else list_all (λ n. home_is_free (piece_of tables (label n)) (label n)) numbers
 
 -- the code of a label that was put down as live in the run: that one, or that nothing is known; or none had room
 abbrev pub IsEntered : ℕ → ℕ → ℕ → Type 0
@@ -92,32 +92,32 @@ empty_in words = count_by (λ word. word == 0) words
 
 -- how many words a table made anew has to keep
 abbrev pub kept : List ℕ → ℕ
-kept words = count_by (λ word. nat_le 2 (code word)) words
+kept words = count_by (λ word. nat_le 2 (word_code word)) words
 
 -- how many of them belong to a piece
 abbrev pub kept_by : ℕ → List ℕ → ℕ
-kept_by piece words = count_by (λ word. nat_le 2 (code word) && (label word % 256 == piece)) words
+kept_by piece words = count_by (λ word. nat_le 2 (word_code word) && (label word % 256 == piece)) words
 
 -- a key more is live in the run. Of two live keys of a label nothing is known from then on
-abbrev pub entered : Residence → ℕ → Residence
-entered Nowhere run = if nat_le run 65535 then In run else Unknown
-entered (In other) run = Unknown
-entered Unknown run = Unknown
+abbrev pub once_entered : Residence → ℕ → Residence
+once_entered Nowhere run = if nat_le run 65535 then In run else Unknown
+once_entered (In other) run = Unknown
+once_entered Unknown run = Unknown
 
 -- a key that was live in a run is not any more
-abbrev pub left : Residence → Residence
-left Nowhere = Nowhere
-left (In run) = Nowhere
-left Unknown = Unknown
+abbrev pub once_left : Residence → Residence
+once_left Nowhere = Nowhere
+once_left (In run) = Nowhere
+once_left Unknown = Unknown
 
 -- the key of the number, live in no run before, is live in that run
 pub record HasEntered (old : Tables) (number run : ℕ) (new : Tables) : Type 0 where
-  pub entered : (n : ℕ) → label n ≡ label number → residence_of new n ≡ entered (residence_of old n) run
+  pub entered : (n : ℕ) → label n ≡ label number → residence_of new n ≡ once_entered (residence_of old n) run
   pub others : (n : ℕ) → label n ≢ label number → residence_of new n ≡ residence_of old n
 
 -- the key of the number, live in a run before, is not any more
 pub record HasLeft (old : Tables) (number : ℕ) (new : Tables) : Type 0 where
-  pub left : (n : ℕ) → label n ≡ label number → residence_of new n ≡ left (residence_of old n)
+  pub left : (n : ℕ) → label n ≡ label number → residence_of new n ≡ once_left (residence_of old n)
   pub others : (n : ℕ) → label n ≢ label number → residence_of new n ≡ residence_of old n
 
 -- a look that begins at the home comes to one place before another
@@ -161,12 +161,12 @@ pub record IsTable (words : List ℕ) (empty : ℕ) : Type 0 where
 
 -- the word was put down, for all that was said of its label
 pub record HasPutWord (old : List ℕ) (word : ℕ) (new : List ℕ) : Type 0 where
-  pub now : code_of new (label word) ≡ code word
+  pub now : code_of new (label word) ≡ word_code word
   pub others : (sought : ℕ) → sought ≢ label word → code_of new sought ≡ code_of old sought
 
 -- the word was put down at a place of its piece, for all that was said of its label
 pub record HasPutIn (old : Tables) (at word : ℕ) (new : Tables) : Type 0 where
-  pub now : code_in new (label word) ≡ code word
+  pub now : code_in new (label word) ≡ word_code word
   pub others : (sought : ℕ) → sought ≢ label word → code_in new sought ≡ code_in old sought
   pub count : length new.pieces ≡ length old.pieces
   pub here : piece_of new (label word) ≡ slice_set (piece_of old (label word)) at word

@@ -4,8 +4,8 @@ ghost use Rattle.std.specs.Prelude.{◌≡◌, ◌≢◌, ◌⊎◌, ◌<◌, �
 ghost use Rattle.std.specs.Prelude.{length, max, slice_index, MatchOption, OnOk, OnErr};
 ghost use Rattle.am_index_directory.specs.declared.residence.Residence.TheVariants.{Nowhere};
 ghost use Rattle.std.specs.List.{All};
-ghost use Rattle.am_index_directory.specs.Tables.{are_free, code_in, empty_in, is_free, kept, kept_by, label, piece_of};
-ghost use Rattle.am_index_directory.specs.Tables.{residence_of, code_left, code_let_go};
+ghost use Rattle.am_index_directory.specs.Tables.{are_free, code_in, empty_in, home_is_free, kept, kept_by, label};
+ghost use Rattle.am_index_directory.specs.Tables.{piece_of, residence_of, code_left, code_let_go};
 ghost use Rattle.am_index_directory.specs.Tables.{IsEntered, HasCode, HasEntered, HasLeft, HasPutIn, IsEnd};
 ghost use Rattle.am_index_directory.specs.Room.{counted_at, share_of, words_for};
 ghost use Rattle.am_index_directory.specs.Room.{AreCounted, HasRoomForAll, HasSpare, HaveSpare, IsReserved};
@@ -225,7 +225,7 @@ impl Directory {
     // which table it is.
     fn is_free(&self, sought: u64) -> bool
         requires { sought < 2 ^ 47 }
-        ensures { result ≡ is_free (piece_of self.now sought) sought }
+        ensures { result ≡ home_is_free (piece_of self.now sought) sought }
     {
         let piece = word::piece_of(sought);
         if piece < self.pieces.len() {

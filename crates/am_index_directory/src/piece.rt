@@ -2,7 +2,7 @@
 
 ghost use Rattle.std.specs.Prelude.{◌≡◌, ◌<◌, ◌≤◌, ◌+◌, ◌/◌, ◌^◌, ℕ, List, [], length, replicate};
 ghost use Rattle.std.specs.Prelude.{slice_set, false, true, MatchOption, OnOk, OnErr, IfOk};
-ghost use Rattle.am_index_directory.specs.Tables.{empty_in, home_index, is_free, kept, label};
+ghost use Rattle.am_index_directory.specs.Tables.{empty_in, home_index, home_is_free, kept, label};
 ghost use Rattle.am_index_directory.specs.Tables.{ArePassed, HasPutWord, IsEnd, IsTable};
 ghost use Rattle.am_index_directory.specs.Room.{words_for, HasSpare, IsRoomier};
 ghost use Rattle.am_index_directory.specs.Found.{IsFound, IsFull};
@@ -135,7 +135,7 @@ impl Piece {
     /// Whether no word stands where the look for the label begins.
     pub(crate) fn is_free(&self, sought: u64) -> bool
         requires { sought < 2 ^ 47 }
-        ensures { result ≡ is_free self.now sought }
+        ensures { result ≡ home_is_free self.now sought }
     {
         let home = self.home(sought);
         home < self.words.len() && self.words[home] == 0

@@ -1,7 +1,7 @@
 //! What a word says.
 
 ghost use Rattle.std.specs.Prelude.{◌≡◌, ◌<◌, ◌≤◌, ◌%◌, ◌^◌, nat_le};
-ghost use Rattle.am_index_directory.specs.Tables.{code as code_in, label as label_of, entered, residence_by};
+ghost use Rattle.am_index_directory.specs.Tables.{word_code as code_in, label as label_of, once_entered, residence_by};
 ghost use Rattle.am_index_directory.specs.declared.residence.Residence.TheVariants.{Nowhere};
 
 use crate::Residence;
@@ -94,7 +94,7 @@ pub(crate) fn residence_by(code: u64) -> Residence
 /// The code of a label of whose keys, all told of by the code before, one more is live in the run.
 pub(crate) fn code_entered(before: u64, run: u32) -> u64
     requires { before < 2 ^ 17 }
-    ensures says { residence_by result ≡ entered (residence_by before) run }
+    ensures says { residence_by result ≡ once_entered (residence_by before) run }
     ensures some { 1 ≤ result }
     ensures below { result < 2 ^ 17 }
 {

@@ -6,12 +6,12 @@ use Rattle.std.proofs.lemmas.Bool.{cases_Bool, cases_eq, cond-true}
 use Rattle.am_record.specs.OrderedKey.{OrderedKey}
 use Rattle.am_record.specs.KeyNumber.{key_number}
 use Rattle.am_record.specs.declared.hash_key.HashKey.{HashKey}
-use Rattle.am_index_directory.specs.Tables.{Tables, label, residence_of, residence_by, code_in, entered, left}
+use Rattle.am_index_directory.specs.Tables.{Tables, label, residence_of, residence_by, code_in, once_entered, once_left}
 use Rattle.am_index_directory.specs.Tables.{HasEntered}
 use Rattle.am_index_directory.specs.Tables.{HasLeft}
 use Rattle.am_index_directory.specs.declared.residence.Residence.{Residence}
 use Rattle.am_index_directory.specs.declared.residence.Residence.TheVariants.{Nowhere, In, Unknown}
-use Rattle.am_index_parts.specs.Residences.{Allows, TellsOfRuns, place_of}
+use Rattle.am_index_parts.specs.Residences.{Allows, TellsOfRuns, place_of_run}
 
 -- nothing is known of any key by a directory that is lost
 lost : (t : Tables) (n : ℕ) → t.is_lost ≡ true → residence_of t n ≡ Unknown
@@ -33,15 +33,15 @@ allows_unknown : (r : Residence) (part : ℕ) → r ≡ Unknown → Allows r par
 allows_unknown r part h = subst (λ (s : Residence). Allows s part) (sym h) tt
 
 -- a label of which a key was live before is unknown once another one enters
-entered_unknown : (r : Residence) (run part : ℕ) → Allows r part → entered r run ≡ Unknown
+entered_unknown : (r : Residence) (run part : ℕ) → Allows r part → once_entered r run ≡ Unknown
 entered_unknown Nowhere run part h = absurd h
 entered_unknown (In q) run part h = refl
 entered_unknown Unknown run part h = refl
 
 -- the run that is entered is allowed
-entered_allows : (r : Residence) (run : ℕ) → Allows (entered r (place_of run)) run
-entered_allows Nowhere run = elim (nat_le (place_of run) 65535) as
-    (λ b. Allows (cond b (In (place_of run)) Unknown) run) [
+entered_allows : (r : Residence) (run : ℕ) → Allows (once_entered r (place_of_run run)) run
+entered_allows Nowhere run = elim (nat_le (place_of_run run) 65535) as
+    (λ b. Allows (cond b (In (place_of_run run)) Unknown) run) [
       | true ↦ refl
       | false ↦ tt
     ]
@@ -76,12 +76,12 @@ module _ (hash : HashKey) where
     module _ (k : OrderedKey) (p : ℕ) where
       -- one more key is live
       module _ (more : (key : OrderedKey) (part : ℕ) → L' key part → L key part ⊎ ((key ≡ k) × (part ≡ p)))
-          (change : HasEntered t (key_number hash k) (place_of p) t') where
+          (change : HasEntered t (key_number hash k) (place_of_run p) t') where
         others_allowed : (key : OrderedKey) (part : ℕ) → L key part → Allows (of t' key) part
         others_allowed key part lives =
             ⊎_elim
             (λ (same : tag key ≡ tag k). allows_unknown (of t' key) part (change.entered (key_number hash key) same ∙
-            entered_unknown (of t key) (place_of p) part (was.allowed key part lives)))
+            entered_unknown (of t key) (place_of_run p) part (was.allowed key part lives)))
             (λ (other : tag key ≢ tag k). subst (λ (r : Residence). Allows r part)
             (sym (change.others (key_number hash key) other)) (was.allowed key part lives))
             (cases_eq (tag key) (tag k))
@@ -89,13 +89,14 @@ module _ (hash : HashKey) where
         it_allowed : (key : OrderedKey) (part : ℕ) → key ≡ k → part ≡ p → Allows (of t' key) part
         it_allowed key part same at =
             subst (λ (r : Residence). Allows r part) (sym (change.entered (key_number hash key) (ap tag same)))
-            (subst (λ (q : ℕ). Allows (entered (of t key) (place_of p)) q) (sym at) (entered_allows (of t key) p))
+            (subst (λ (q : ℕ). Allows (once_entered (of t key) (place_of_run p)) q) (sym at)
+            (entered_allows (of t key) p))
 
         -- where something is known of the label of a key that was live before, it isn't the label of the one that
         -- entered
         not_its : (key : OrderedKey) (part : ℕ) → L key part → of t' key ≢ Unknown → tag key ≡ tag k → ⊥
         not_its key part lives known same = known (change.entered (key_number hash key) same ∙
-            entered_unknown (of t key) (place_of p) part (was.allowed key part lives))
+            entered_unknown (of t key) (place_of_run p) part (was.allowed key part lives))
 
         pub tells_more : TellsOfRuns L' hash t'
         tells_more = record {
@@ -124,17 +125,18 @@ module _ (hash : HashKey) where
 
       -- the same where the directory may be lost
       pub tells_entered : ((key : OrderedKey) (part : ℕ) → L' key part → L key part ⊎ ((key ≡ k) × (part ≡ p))) →
-          (t'.is_lost ≡ false → HasEntered t (key_number hash k) (place_of p) t') → TellsOfRuns L' hash t'
+          (t'.is_lost ≡ false → HasEntered t (key_number hash k) (place_of_run p) t') → TellsOfRuns L' hash t'
       tells_entered more change = ⊎_elim (λ is_lost. tells_lost L' t' is_lost)
           (λ whole. tells_more more (change whole)) (cases_Bool t'.is_lost)
 
       -- the key is live no more
       module _ (fewer : (key : OrderedKey) (part : ℕ) → L' key part → L key part)
           (gone : (part : ℕ) → L' k part → ⊥) (lived : L k p) (change : HasLeft t (key_number hash k) t') where
-        left_allowed : (key : OrderedKey) (part : ℕ) → L' key part → tag key ≡ tag k → Allows (left (of t key)) part
+        left_allowed : (key : OrderedKey) (part : ℕ) → L' key part → tag key ≡ tag k →
+            Allows (once_left (of t key)) part
         left_allowed key part lives same = by_cases (of t key) refl
           where
-            by_cases : (r : Residence) → of t key ≡ r → Allows (left r) part
+            by_cases : (r : Residence) → of t key ≡ r → Allows (once_left r) part
             by_cases Unknown h = tt
             by_cases Nowhere h = absurd (gone part (subst (λ (q : OrderedKey). L' q part)
                 (was.alone key k part p (fewer key part lives) lived same
@@ -156,7 +158,7 @@ module _ (hash : HashKey) where
               was.alone key other part part' (fewer key part lives) (fewer other part' lives') tags
               (λ unknown. known
               (⊎_elim
-              (λ (same : tag key ≡ tag k). change.left (key_number hash key) same ∙ ap left unknown)
+              (λ (same : tag key ≡ tag k). change.left (key_number hash key) same ∙ ap once_left unknown)
               (λ (apart : tag key ≢ tag k). change.others (key_number hash key) apart ∙ unknown)
               (cases_eq (tag key) (tag k))));
         }

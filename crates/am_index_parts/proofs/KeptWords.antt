@@ -23,7 +23,7 @@ use Rattle.am_index.proofs.Lists.{rising_remove}
 use Rattle.am_index_parts.specs.Partitions.{AreWellFormed, settled, settled_too, all_settled, IsStretch}
 use Rattle.am_index_parts.specs.Residences.{LivesInRun, StandsInRun, LivesWith, HasKey, KeepsFor, KeepNoneInVain}
 use Rattle.am_index_parts.specs.Residences.{KeepNoneWith}
-use Rattle.am_index_parts.specs.Residences.{HasNoted, place_of}
+use Rattle.am_index_parts.specs.Residences.{HasNoted, place_of_run}
 use Rattle.am_index_parts.specs.declared.residences.Residences.{Residences}
 use Rattle.am_index_parts.proofs.LiveRuns.{place_parts, lives, inserted_finds, reset_finds, removed_finds}
 use Rattle.am_index_parts.proofs.NotedKeys.{key_at}
@@ -88,7 +88,7 @@ module _ (hash : HashKey) (L L' : OrderedKey → ℕ → Type 0) (E E' : Ordered
     -- the key is live in one run more
     pub keeps_entered : (p : ℕ) → ((key : OrderedKey) (part : ℕ) → L key part → L' key part) →
         ((key : OrderedKey) → E key → E' key) → L' k p →
-        HasCode t (key_number hash k) (IsEntered (code_in t (label (key_number hash k))) (place_of p)) t' →
+        HasCode t (key_number hash k) (IsEntered (code_in t (label (key_number hash k))) (place_of_run p)) t' →
         KeepsFor L' E' hash t'
     unfolding tag
     keeps_entered p live stand lives_now change = record {
@@ -101,8 +101,8 @@ module _ (hash : HashKey) (L L' : OrderedKey → ℕ → Type 0) (E E' : Ordered
           (was.named sought place (ap (code_in t) own ∙ sym same ∙ code)))
           (λ changed. ⊎_elim
           (λ (unknown : code_in t' (tag k) ≡ 3). absurd (omega (arith, unknown, code)))
-          (λ (its : code_in t' (tag k) ≡ place_of p + 4).
-          let is : place_of p ≡ place = omega (arith, its, code) in
+          (λ (its : code_in t' (tag k) ≡ place_of_run p + 4).
+          let is : place_of_run p ≡ place = omega (arith, its, code) in
           record { key = k; labelled = sym own; meets = (p, lives_now, is) })
           changed)
           change.now)
@@ -119,7 +119,7 @@ module _ (hash : HashKey) (L L' : OrderedKey → ℕ → Type 0) (E E' : Ordered
           (was.asleep sought (ap (code_in t) own ∙ sym same ∙ code)))
           (λ changed. ⊎_elim
           (λ (unknown : code_in t' (tag k) ≡ 3). absurd (omega (arith, unknown, code)))
-          (λ (its : code_in t' (tag k) ≡ place_of p + 4). absurd (omega (arith, its, code)))
+          (λ (its : code_in t' (tag k) ≡ place_of_run p + 4). absurd (omega (arith, its, code)))
           changed)
           change.now)
           (λ (other : sought ≢ tag k).

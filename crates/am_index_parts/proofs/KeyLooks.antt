@@ -17,7 +17,7 @@ use Rattle.am_index_parts.specs.Partitions.{AreWellFormed, AreEmpty, AreEmptyFro
 use Rattle.am_index_parts.specs.Partitions.{IsVacancy, vacancy_over}
 use Rattle.am_index_directory.specs.declared.residence.Residence.{Residence}
 use Rattle.am_index_directory.specs.declared.residence.Residence.TheVariants.{Nowhere}
-use Rattle.am_index_parts.specs.Residences.{LivesInRun, Allows, place_of}
+use Rattle.am_index_parts.specs.Residences.{LivesInRun, Allows, place_of_run}
 use Rattle.am_index_parts.proofs.Lives.{laws_of, lives_in}
 use Rattle.am_index_parts.proofs.ListedRuns.{is_listed, some_left}
 
@@ -229,7 +229,7 @@ lives_in_no_run {es} {n} {runs} key h none = record {
 -- where all numbers are below that of places, a place has one
 pub of_first_place : {es : List Entry} {n : ℕ} {runs : List OpenRun} {key : OrderedKey} {last place run : ℕ} →
     AreListed es n runs → AllByRecursion (λ (r : OpenRun). r.part ≤ last) runs → last < 65536 →
-    LivesInRun es key run → place ≡ place_of run → place ≡ run
+    LivesInRun es key run → place ≡ place_of_run run → place ≡ run
 of_first_place {es} {n} {runs} {key} {last} {place} {run} h low few it same =
     same ∙ mod-eq_of_lt (omega (arith, few, below runs low (is_listed h run key it.is_run (ap is_some it.live.there))))
   where

@@ -24,17 +24,17 @@ abbrev pub OneRun : List Entry → Type 0
 OneRun es = (key : OrderedKey) (part part' : ℕ) → LivesInRun es key part → LivesInRun es key part' → part ≡ part'
 
 -- a directory knows a run by the lower 16 bits of its number, its place. Runs whose numbers are 65,536 apart share one
-abbrev pub place_of : ℕ → ℕ
-place_of run = run % 65536
+abbrev pub place_of_run : ℕ → ℕ
+place_of_run run = run % 65536
 
 -- the key is live in a run of that place
 abbrev pub LivesAt : (OrderedKey → ℕ → Type 0) → ℕ → OrderedKey → Type 0
-LivesAt Lives place key = (run : ℕ) × Lives key run × (place_of run ≡ place)
+LivesAt Lives place key = (run : ℕ) × Lives key run × (place_of_run run ≡ place)
 
 -- what is told of a key leaves that it is live in the run
 abbrev pub Allows : Residence → ℕ → Type 0
 Allows Nowhere run = ⊥
-Allows (In place) run = place ≡ place_of run
+Allows (In place) run = place ≡ place_of_run run
 Allows Unknown run = Unit {0}
 
 -- of the keys that are live in runs: what is told of each allows its run, and where something is known of a label, one
@@ -82,9 +82,9 @@ OthersStay old key new = (sought : ℕ) → sought ≢ label (key_number old.has
 pub record HasNoted (old : Residences) (key : OrderedKey) (part : ℕ) (new : Residences) : Type 0 where
   pub hash : new.hash ≡ old.hash
   pub code : HasCode old.directory (key_number old.hash key)
-      (IsEntered (code_in old.directory (label (key_number old.hash key))) (place_of part)) new.directory
+      (IsEntered (code_in old.directory (label (key_number old.hash key))) (place_of_run part)) new.directory
   pub entered : new.directory.is_lost ≡ false →
-      HasEntered old.directory (key_number old.hash key) (place_of part) new.directory
+      HasEntered old.directory (key_number old.hash key) (place_of_run part) new.directory
 
 -- there is room for live keys more of these numbers
 abbrev pub HasRoomFor : Residences → List ℕ → Type 0

@@ -4,7 +4,7 @@ ghost use Rattle.std.specs.Prelude.{◌≡◌, ◌<◌, ℕ, false, Some, is_som
 ghost use Rattle.am_index.specs.Content.{live_value};
 ghost use Rattle.am_index_parts.specs.Catalogs.{IsCatalog};
 ghost use Rattle.am_index_parts.specs.Partitions.{AreWellFormed, IsLiveEntry, LivesInNoRun};
-ghost use Rattle.am_index_parts.specs.Residences.{LivesInRun, Allows, place_of};
+ghost use Rattle.am_index_parts.specs.Residences.{LivesInRun, Allows, place_of_run};
 
 use crate::catalog::Catalog;
 use crate::residences::PLACES;
@@ -44,7 +44,7 @@ pub(crate) fn live_in_place<I: PartIndex + Drop>(
 ) -> (Option<Entry>, Hint)
     requires sound { AreWellFormed (I.entries index.now) }
     requires counted { IsCatalog (I.entries index.now) catalog.now }
-    requires known { (run : ℕ) → LivesInRun (I.entries index.now) key run → place ≡ place_of run }
+    requires known { (run : ℕ) → LivesInRun (I.entries index.now) key run → place ≡ place_of_run run }
     ensures live { IfSome result.0 (λ e. IsLiveEntry (I.entries index.now) key e) }
     ensures absent { IfNone result.0 (LivesInNoRun (I.entries index.now) key) }
 {
@@ -74,7 +74,7 @@ fn live_in_other<I: PartIndex + Drop>(
     key: Key,
 ) -> (Option<Entry>, Hint)
     requires sound { AreWellFormed (I.entries index.now) }
-    requires known { LivesInRun (I.entries index.now) key run → place ≡ place_of run }
+    requires known { LivesInRun (I.entries index.now) key run → place ≡ place_of_run run }
     requires passed { ¬ LivesInRun (I.entries index.now) key newest }
     ensures live { IfSome result.0 (λ e. IsLiveEntry (I.entries index.now) key e) }
     ensures none { IfNone result.0 (¬ LivesInRun (I.entries index.now) key run) }

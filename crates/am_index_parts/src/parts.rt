@@ -14,7 +14,7 @@ ghost use Rattle.am_index.specs.Content.{content, rows_in, live_value, HasConten
 ghost use Rattle.am_index_parts.specs.Catalogs.{IsCatalog, runs_in};
 ghost use Rattle.am_index_parts.specs.MergedRanges.{HasNoneBefore};
 ghost use Rattle.am_index_parts.specs.Partitions.{vacancy_over, NoneLiveIn, AreAllAbsent};
-ghost use Rattle.am_index_parts.specs.Residences.{LivesInRun, Allows, place_of};
+ghost use Rattle.am_index_parts.specs.Residences.{LivesInRun, Allows, place_of_run};
 
 use crate::catalog::Catalog;
 use crate::fault::RunFault;
@@ -392,7 +392,7 @@ impl<I: PartIndex + Drop> Parts<I> {
 
     // What a record meets whose key may be live in the runs of a place: these come first.
     fn vacancy_from_place(&self, place: u32, key: Key, hint: Hint) -> (Vacancy, Hint)
-        requires known { (run : ℕ) → LivesInRun self.now.entries key run → place ≡ place_of run }
+        requires known { (run : ℕ) → LivesInRun self.now.entries key run → place ≡ place_of_run run }
         ensures met { IsVacancy self.now.entries key result.0 }
         ensures sound { AreWellFormed self.now.entries }
         ensures room { HaveRoom self.now.entries self.now.roomy }

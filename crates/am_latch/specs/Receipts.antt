@@ -31,8 +31,8 @@ abbrev pub most_let_go : ℕ
 most_let_go = 140000000000000
 
 -- how many receipts it holds
-abbrev pub held_by : SeatState → ℕ
-held_by s = length s.receipts - s.let_go
+abbrev pub receipts_held : SeatState → ℕ
+receipts_held s = length s.receipts - s.let_go
 
 abbrev pub positions_of : List Receipt → List ℕ
 positions_of rs = map (λ (r : Receipt). r.position) rs

@@ -9,7 +9,7 @@ ghost use Rattle.am_latch_engine.specs.Copies.{IsCopyOf};
 ghost use Rattle.am_latch_engine.specs.Wants.{takes_lists};
 ghost use Rattle.am_latch_ties.specs.Receipts.{receipts_of};
 ghost use Rattle.am_latch.specs.Receipts.{SeatState, new_seat, HasReceiptOf, moved_in, last_commit_of};
-ghost use Rattle.am_latch.specs.Receipts.{held_by, positions_of, AreBehind};
+ghost use Rattle.am_latch.specs.Receipts.{receipts_held, positions_of, AreBehind};
 ghost use Rattle.am_latch.specs.Ties.{open_of, EndsTx, receipts_needed, receipt_room};
 ghost use Rattle.am_latch.specs.Wants.{CallMayWant};
 ghost use Rattle.am_latch_ties.specs.declared.views.View.TheVariants.{Receipts};
@@ -171,7 +171,7 @@ impl<L: LatchName> Seat<L> {
     pub fn call<R: Wait>(&mut self, rt: &R, latch: &Latch<L>, step: Step) -> Reply
         requires { IsAllowed (open_of self.old.receipts) step }
         ensures called { HasReceiptOf self.old step result self.new }
-        ensures full { (result ≡ Refused SeatFull) ↔ ((1000000 ≤ held_by self.old) × (end_of step ≡ None)) }
+        ensures full { (result ≡ Refused SeatFull) ↔ ((1000000 ≤ receipts_held self.old) × (end_of step ≡ None)) }
         ensures memory { result ≡ Refused NoMemory → CallMayWant L.seats L.most_runs self.old step }
         ensures ended { EndsTx step result }
         ensures neither { IsSome (end_of step) → is_stored result ≡ true }
@@ -192,7 +192,7 @@ impl<L: LatchName> Seat<L> {
     ) -> Reply
         requires { IsAllowed (open_of self.old.receipts) step }
         ensures called { HasReceiptOf self.old step result self.new }
-        ensures full { (result ≡ Refused SeatFull) ↔ ((1000000 ≤ held_by self.old) × (end_of step ≡ None)) }
+        ensures full { (result ≡ Refused SeatFull) ↔ ((1000000 ≤ receipts_held self.old) × (end_of step ≡ None)) }
         ensures memory { result ≡ Refused NoMemory → CallMayWant L.seats L.most_runs self.old step }
         ensures ended { EndsTx step result }
         ensures neither { IsSome (end_of step) → is_stored result ≡ true }
@@ -213,7 +213,7 @@ impl<L: LatchName> Seat<L> {
         step: Step,
     ) -> Reply
         requires may { IsAllowed (open_of self.old.receipts) step }
-        requires room { end_of step ≡ None → held_by self.old < 1000000 }
+        requires room { end_of step ≡ None → receipts_held self.old < 1000000 }
         ensures called { HasReceiptOf self.old step result self.new }
         ensures never_full { result ≢ Refused SeatFull }
         ensures memory { result ≡ Refused NoMemory → CallMayWant L.seats L.most_runs self.old step }

@@ -8,7 +8,7 @@ use Rattle.am_record.specs.Plain.{PlainMap}
 use Rattle.am_record.specs.declared.step.Op.{Op}
 use Rattle.am_line_dialogue.specs.Actions.{may_wait}
 use Rattle.am_line_dialogue.specs.Say.{DialogueState, response_due, state_after_line}
-use Rattle.am_line_dialogue.specs.StagedLoads.{all_of, stage, load, put, responses_to, state_behind, IsAsOne}
+use Rattle.am_line_dialogue.specs.StagedLoads.{all_of, stage, load, put_line, responses_to, state_behind, IsAsOne}
 use Rattle.am_line_dialogue.specs.declared.lines.ParsedLine.{ParsedLine}
 use Rattle.am_line_dialogue.specs.declared.response.Response.TheVariants.{Staged, TooManyStaged}
 
@@ -87,8 +87,8 @@ module _ (s : DialogueState) (ops : List Op) (pieces : List Records) (last : Rec
     behind = leaves s.begun s.commits s.runs s.committed ops load (λ _ _. refl) (λ _ _. refl) pieces [] last few;
   })
 
-  pub one_put : IsAsOne s pieces put last
-  one_put = subst (λ (t : DialogueState). IsAsOne t pieces put last) (sym same) (record {
-    answers = answers s.begun s.commits s.runs s.committed ops put (λ _ _. refl) (λ _ _. refl) pieces [] last few;
-    behind = leaves s.begun s.commits s.runs s.committed ops put (λ _ _. refl) (λ _ _. refl) pieces [] last few;
+  pub one_put : IsAsOne s pieces put_line last
+  one_put = subst (λ (t : DialogueState). IsAsOne t pieces put_line last) (sym same) (record {
+    answers = answers s.begun s.commits s.runs s.committed ops put_line (λ _ _. refl) (λ _ _. refl) pieces [] last few;
+    behind = leaves s.begun s.commits s.runs s.committed ops put_line (λ _ _. refl) (λ _ _. refl) pieces [] last few;
   })

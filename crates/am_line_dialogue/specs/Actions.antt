@@ -100,10 +100,10 @@ session_behind_line s _ = s
 -- ---- with memory refused
 
 -- whether room is wanted for records beside those that wait
-abbrev pub wants_room : Option ℕ → Records → Request → Bool
-wants_room (Some tx) staged (Stage records) = may_wait staged records
-wants_room (Some tx) staged (Do op) = has_pairs op && some_wait staged
-wants_room active staged request = false
+abbrev pub wants_records_room : Option ℕ → Records → Request → Bool
+wants_records_room (Some tx) staged (Stage records) = may_wait staged records
+wants_records_room (Some tx) staged (Do op) = has_pairs op && some_wait staged
+wants_records_room active staged request = false
 
 abbrev pub no_room : Action
 no_room = Answer (response.Faulty fault.NoMemory)
@@ -112,7 +112,7 @@ abbrev pub IsActionForRequest : SessionState → Request → Action → SessionS
 IsActionForRequest s request what s' =
     ((what ≡ request_action s.active s.staged request) × (s' ≡
     record { active = s.active; staged = staged_asked s.active s.staged request }))
-    ⊎ ((wants_room s.active s.staged request ≡ true) × (what ≡ no_room) × (s' ≡ s))
+    ⊎ ((wants_records_room s.active s.staged request ≡ true) × (what ≡ no_room) × (s' ≡ s))
 
 -- what may be due: where room was refused, it is that answer, and the session stands where it stood
 abbrev pub IsActionFor : SessionState → ParsedLine → Action → SessionState → Type 0

@@ -20,8 +20,8 @@ stage records = Asked (Stage records)
 abbrev pub load : Records → ParsedLine
 load records = Asked (Do (Load records))
 
-abbrev pub put : Records → ParsedLine
-put records = Asked (Do (Put records))
+abbrev pub put_line : Records → ParsedLine
+put_line records = Asked (Do (Put records))
 
 -- what is said to lines that were parsed so, one after another, and where that leads
 abbrev pub responses_to : DialogueState → List ParsedLine → List (Option Response)

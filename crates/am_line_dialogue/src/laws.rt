@@ -9,7 +9,7 @@ ghost use Rattle.am_line_dialogue.specs.Responses.{response_text};
 ghost use Rattle.am_line_dialogue.specs.Exchanges.{Exchange, with_torn};
 ghost use Rattle.am_line_dialogue.specs.Alone.{AnswersAlone};
 ghost use Rattle.am_line_dialogue.specs.Say.{DialogueState, Says, AreSay, StagesNothing, LosesNothing};
-ghost use Rattle.am_line_dialogue.specs.StagedLoads.{all_of, load, put, IsAsOne};
+ghost use Rattle.am_line_dialogue.specs.StagedLoads.{all_of, load, put_line, IsAsOne};
 ghost use Rattle.am_record.specs.Limits.{max_runs, max_run_records};
 ghost use Rattle.am_record.specs.Records.{Records};
 ghost use Rattle.am_record.specs.declared.step.Op.{Op};
@@ -37,7 +37,7 @@ pub fn staging_is_loading()
     ensures loads { (s : DialogueState) (ops : List Op) (staged : List Records) (last : Records) →
         s.own ≡ Some ops → s.staged ≡ [] → length (all_of staged) ≤ max_run_records → IsAsOne s staged load last }
     ensures puts { (s : DialogueState) (ops : List Op) (staged : List Records) (last : Records) →
-        s.own ≡ Some ops → s.staged ≡ [] → length (all_of staged) ≤ max_run_records → IsAsOne s staged put last }
+        s.own ≡ Some ops → s.staged ≡ [] → length (all_of staged) ≤ max_run_records → IsAsOne s staged put_line last }
 {}
 
 /// Where one session alone had its steps answered by the store, each answer is one line: an LF ends it, and no other

@@ -6,18 +6,18 @@ use Rattle.am_trace_text.specs.declared.version.Version.TheVariants.{Two}
 use Rattle.am_program_audit.specs.Judgements.{SaysJudgement, IsBegun, PrintsRecords, HasBegunRecords}
 
 -- whether an LF stands in the text
-abbrev pub has_lf : List ℕ → Bool
-has_lf [] = false
-has_lf (b ∷ text) = cond (b == 10) true (has_lf text)
+abbrev pub holds_lf : List ℕ → Bool
+holds_lf [] = false
+holds_lf (b ∷ text) = cond (b == 10) true (holds_lf text)
 
 -- the text up to its last LF, and with it
 abbrev pub whole_lines : List ℕ → List ℕ
 whole_lines [] = []
-whole_lines (b ∷ text) = cond (has_lf (b ∷ text)) (b ∷ whole_lines text) []
+whole_lines (b ∷ text) = cond (holds_lf (b ∷ text)) (b ∷ whole_lines text) []
 
 -- the text of a run that isn't ended: its whole lines; where none has come yet, the text of a run without steps
 abbrev pub whole_run : List ℕ → List ℕ
-whole_run text = cond (has_lf text) (whole_lines text) (header Two)
+whole_run text = cond (holds_lf text) (whole_lines text) (header Two)
 
 -- what is judged of the text
 abbrev pub text_judged : Audited → List ℕ → List ℕ

@@ -3,7 +3,7 @@ use Rattle.std.proofs.Common.{◌≡◌, List, [], ◌∷◌, ◌++◌, refl, sy
 use Rattle.std.proofs.Common.{Some, None}
 use Rattle.am_record.specs.declared.step.Op.{Op}
 use Rattle.am_record.specs.declared.step.Refusal.{Refusal}
-use Rattle.am_replica.specs.Bodies.{refusal_behind, own_by, own_behind, kept_behind, kept}
+use Rattle.am_replica.specs.Bodies.{refusal_behind, own_by, own_behind, kept_behind, kept_ops}
 
 -- no operation is refused after these and those before it
 abbrev AreTaken : List Op → List Op → Type 0
@@ -36,5 +36,5 @@ kept_taken own [] taken = taken
 kept_taken own (op ∷ ops) taken = kept_taken (own_behind own op) ops
     (own_taken own op (refusal_behind own op) refl taken)
 
-pub kept_twice : (ops : List Op) → kept (kept ops) ≡ kept ops
-kept_twice ops = taken_are_kept [] (kept ops) (kept_taken [] ops tt)
+pub kept_twice : (ops : List Op) → kept_ops (kept_ops ops) ≡ kept_ops ops
+kept_twice ops = taken_are_kept [] (kept_ops ops) (kept_taken [] ops tt)

@@ -6,7 +6,7 @@ use Rattle.std.proofs.lemmas.List.Elements.{filter-append}
 use Rattle.am_record.specs.Plain.{PlainMap, Draft, fresh, draft_after, answers_on, answers}
 use Rattle.am_record.specs.declared.step.Op.{Op}
 use Rattle.am_record.specs.declared.step.Reply.{Reply}
-use Rattle.am_replica.specs.Bodies.{kept, replies, is_given, given}
+use Rattle.am_replica.specs.Bodies.{kept_ops, replies, is_given, given}
 use Rattle.am_replica.specs.Ordered.{Sum, same_sum}
 use Rattle.am_replica.specs.Told.{TransactionState, still_stands, untold, NoCollision, WasTold}
 use Rattle.am_replica.specs.Told.{IsOneState}
@@ -41,14 +41,14 @@ module _ (digest : List Reply → Sum) (t : TransactionState) (told : List Reply
       let same : first ≡ told = apart (subst (λ sum. same_sum (digest first) sum ≡ true) was.sum stands) in
       let whole : told ++ given (untold t lines m) ≡ given all = ap (λ rs. rs ++ given (untold t lines m)) (sym same) ∙
       both in
-      let alone : told ++ given (untold t lines m) ≡ answers (kept (t.ops ++ lines)) m =
+      let alone : told ++ given (untold t lines m) ≡ answers (kept_ops (t.ops ++ lines)) m =
       whole ∙ sym (given_are_answers m [] (t.ops ++ lines)) in
       record {
         before = sym same ∙ now was;
         with_lines = alone;
         on = record {
           kept = kept_twice (t.ops ++ lines);
-          each = ap length alone ∙ answers_length (kept (t.ops ++ lines)) (fresh m);
+          each = ap length alone ∙ answers_length (kept_ops (t.ops ++ lines)) (fresh m);
           sum = ap digest (sym whole);
         };
       }

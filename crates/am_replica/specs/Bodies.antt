@@ -27,8 +27,8 @@ kept_behind own [] = own
 kept_behind own (op ∷ ops) = kept_behind (own_behind own op) ops
 
 -- the operations that aren't refused
-abbrev pub kept : List Op → List Op
-kept ops = kept_behind [] ops
+abbrev pub kept_ops : List Op → List Op
+kept_ops ops = kept_behind [] ops
 
 -- what an operation is answered: its refusal, and else what the map answers to it after the others
 abbrev pub reply_by : Option Refusal → Reply → Reply
@@ -47,7 +47,7 @@ abbrev pub replies : List Op → PlainMap → List Reply
 replies ops m = replies_behind [] m ops
 
 abbrev pub leaves : List Op → PlainMap → PlainMap
-leaves ops m = left (kept ops) m
+leaves ops m = left (kept_ops ops) m
 
 -- the replies that are none of refused operations
 abbrev pub is_given : Reply → Bool

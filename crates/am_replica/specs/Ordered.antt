@@ -7,7 +7,7 @@ use Rattle.am_record.specs.declared.step.Reply.{Reply}
 use Rattle.am_replica.specs.declared.block.Block.{Block}
 use Rattle.am_replica.specs.declared.block.Outcome.{Outcome}
 use Rattle.am_replica.specs.declared.block.Outcome.TheVariants.{Committed, Conflict}
-use Rattle.am_replica.specs.Bodies.{kept, replies, leaves, given}
+use Rattle.am_replica.specs.Bodies.{kept_ops, replies, leaves, given}
 
 -- the committed records, and how many blocks committed
 pub record Ordered : Type 0 where
@@ -15,16 +15,16 @@ pub record Ordered : Type 0 where
   pub commits : ℕ
 
 -- an outcome as who sent the block is told
-pub data Seen : Type 0 where
-  Stands : ℕ → List Reply → Seen
-  Fails : Seen
+pub data Verdict : Type 0 where
+  Stands : ℕ → List Reply → Verdict
+  Fails : Verdict
 
-abbrev pub seen : Outcome → Seen
-seen (Committed number told) = Stands number told.items
-seen Conflict = Fails
+abbrev pub verdict : Outcome → Verdict
+verdict (Committed number told) = Stands number told.items
+verdict Conflict = Fails
 
-abbrev pub seen_all : List Outcome → List Seen
-seen_all outcomes = map seen outcomes
+abbrev pub verdicts : List Outcome → List Verdict
+verdicts outcomes = map verdict outcomes
 
 -- a digest of answers: its 32 bytes
 abbrev pub Sum : Type 0
@@ -37,20 +37,20 @@ same_sum a b = pointwise nat_eq a b
 abbrev pub stands : (List Reply → Sum) → Block → PlainMap → Bool
 stands digest block m = same_sum (digest (given (take block.told (replies block.ops.items m)))) block.digest
 
-abbrev pub outcome : (List Reply → Sum) → Block → Ordered → Seen
+abbrev pub outcome : (List Reply → Sum) → Block → Ordered → Verdict
 outcome digest block s = cond (stands digest block s.map) (Stands (s.commits + 1) (replies block.ops.items s.map)) Fails
 
-abbrev pub after : (List Reply → Sum) → Block → Ordered → Ordered
-after digest block s =
+abbrev pub after_block : (List Reply → Sum) → Block → Ordered → Ordered
+after_block digest block s =
     cond (stands digest block s.map) (record { map = leaves block.ops.items s.map; commits = s.commits + 1 }) s
 
-abbrev pub outcomes : (List Reply → Sum) → List Block → Ordered → List Seen
+abbrev pub outcomes : (List Reply → Sum) → List Block → Ordered → List Verdict
 outcomes digest [] s = []
-outcomes digest (block ∷ blocks) s = outcome digest block s ∷ outcomes digest blocks (after digest block s)
+outcomes digest (block ∷ blocks) s = outcome digest block s ∷ outcomes digest blocks (after_block digest block s)
 
-abbrev pub after_all : (List Reply → Sum) → List Block → Ordered → Ordered
-after_all digest [] s = s
-after_all digest (block ∷ blocks) s = after_all digest blocks (after digest block s)
+abbrev pub after_blocks : (List Reply → Sum) → List Block → Ordered → Ordered
+after_blocks digest [] s = s
+after_blocks digest (block ∷ blocks) s = after_blocks digest blocks (after_block digest block s)
 
 -- ---- committed transactions: their operations, what they were answered, and their numbers
 
@@ -59,15 +59,15 @@ pub record Commit : Type 0 where
   pub replies : List Reply
   pub number : ℕ
 
-abbrev pub commit_of : Block → Seen → List Commit
+abbrev pub commit_of : Block → Verdict → List Commit
 commit_of block (Stands number told) =
-    (record { ops = kept block.ops.items; replies = given told; number = number }) ∷ []
+    (record { ops = kept_ops block.ops.items; replies = given told; number = number }) ∷ []
 commit_of block Fails = []
 
-abbrev pub committed : (List Reply → Sum) → List Block → Ordered → List Commit
-committed digest [] s = []
-committed digest (block ∷ blocks) s =
-    commit_of block (outcome digest block s) ++ committed digest blocks (after digest block s)
+abbrev pub commits_of : (List Reply → Sum) → List Block → Ordered → List Commit
+commits_of digest [] s = []
+commits_of digest (block ∷ blocks) s =
+    commit_of block (outcome digest block s) ++ commits_of digest blocks (after_block digest block s)
 
 -- each is answered as it is alone on the map that those before it leave, and has the next number
 abbrev pub AreInTurn : List Commit → Ordered → Type 0

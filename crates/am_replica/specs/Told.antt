@@ -6,7 +6,7 @@ use Rattle.am_record.specs.Plain.{PlainMap, answers}
 use Rattle.am_record.specs.declared.step.Op.{Op}
 use Rattle.am_record.specs.declared.step.Op.TheVariants.{Get, Scan, ScanBack, Lock, Mark, Back}
 use Rattle.am_record.specs.declared.step.Reply.{Reply}
-use Rattle.am_replica.specs.Bodies.{kept, replies, given}
+use Rattle.am_replica.specs.Bodies.{kept_ops, replies, given}
 use Rattle.am_replica.specs.Ordered.{Sum, same_sum}
 
 -- its lines that were answered, the digest of their answers, and whether an earlier answer no longer came
@@ -28,7 +28,7 @@ still_stands digest t lines m = same_sum (digest (given (take (length t.ops) (re
 -- the transaction once the lines are answered: those that were refused are forgotten
 abbrev pub behind_lines : (List Reply → Sum) → TransactionState → List Op → PlainMap → TransactionState
 behind_lines digest t lines m = record {
-  ops = kept (t.ops ++ lines);
+  ops = kept_ops (t.ops ++ lines);
   digest = digest (given (replies (t.ops ++ lines) m));
   is_over = false;
 }
@@ -44,7 +44,7 @@ NoCollision digest a b = same_sum (digest a) (digest b) ≡ true → a ≡ b
 -- A transaction was told this: they are as many answers as it has lines, no line of which is refused after those
 -- before it, with that digest.
 pub record WasTold (digest : List Reply → Sum) (t : TransactionState) (told : List Reply) : Type 0 where
-  pub kept : kept t.ops ≡ t.ops
+  pub kept : kept_ops t.ops ≡ t.ops
   pub each : length told ≡ length t.ops
   pub sum : t.digest ≡ digest told
 
@@ -53,7 +53,7 @@ pub record WasTold (digest : List Reply → Sum) (t : TransactionState) (told : 
 pub record IsOneState (digest : List Reply → Sum) (t : TransactionState) (told : List Reply) (lines : List Op)
     (m : PlainMap) : Type 0 where
   pub before : told ≡ answers t.ops m
-  pub with_lines : told ++ given (untold t lines m) ≡ answers (kept (t.ops ++ lines)) m
+  pub with_lines : told ++ given (untold t lines m) ≡ answers (kept_ops (t.ops ++ lines)) m
   pub on : WasTold digest (behind_lines digest t lines m) (told ++ given (untold t lines m))
 
 -- whether the operation writes nothing, whatever it is answered

@@ -7,16 +7,16 @@ ghost use Rattle.am_record.specs.declared.step.Op.{Op as TheOp};
 ghost use Rattle.am_record.specs.declared.step.Reply.{Reply as TheReply};
 ghost use Rattle.am_replica.specs.declared.block.Block.{Block as TheBlock};
 ghost use Rattle.am_replica.specs.Bodies.{replies, given};
-ghost use Rattle.am_replica.specs.Ordered.{Sum, Ordered, after_all, committed, AreInTurn, left_by};
+ghost use Rattle.am_replica.specs.Ordered.{Sum, Ordered, after_blocks, commits_of, AreInTurn, left_by};
 ghost use Rattle.am_replica.specs.Told.{TransactionState, still_stands, NoCollision, WasTold, IsOneState, only_reads};
 
 /// Over every list of blocks, the ones that commit are answered as if they alone were applied whole, one after another,
 /// to the map, their refused lines aside; the numbers rise by one; and the map is what they leave.
 pub fn committed_blocks_are_serial()
     ensures serial { (digest : List TheReply → Sum) (blocks : List TheBlock) (start : Ordered) →
-        AreInTurn (committed digest blocks start) start }
+        AreInTurn (commits_of digest blocks start) start }
     ensures left { (digest : List TheReply → Sum) (blocks : List TheBlock) (start : Ordered) →
-        (after_all digest blocks start).map ≡ left_by (committed digest blocks start) start.map }
+        (after_blocks digest blocks start).map ≡ left_by (commits_of digest blocks start) start.map }
 {}
 
 /// Where a transaction's lines still stand, all that it was ever told is what one map answers, which is the one that

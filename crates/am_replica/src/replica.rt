@@ -1,7 +1,7 @@
 //! Replicas.
 
 ghost use Rattle.std.specs.Prelude.{◌≡◌, ◌+◌, ◌<◌, ◌^◌, length, IfOk, OnOk};
-ghost use Rattle.am_replica.specs.Ordered.{Ordered, seen, outcome, after, outcomes, after_all, seen_all};
+ghost use Rattle.am_replica.specs.Ordered.{Ordered, verdict, outcome, after_block, outcomes, after_blocks, verdicts};
 
 use crate::block::{Block, Outcome, is_same};
 use crate::machine::{Digest, Machine};
@@ -24,10 +24,10 @@ impl<M: Machine + Drop, D: Digest + Drop> Replica<M, D> {
     pub fn apply(&mut self, block: &Block) -> Result<Outcome, NoMemory>
         requires idle { M.idle self.old.machine }
         requires countable { self.old.commits + 1 < 2 ^ 64 }
-        ensures outcome { IfOk result (λ o. seen o ≡
+        ensures outcome { IfOk result (λ o. verdict o ≡
             outcome D.digest_of block.now (record { map = M.map self.old.machine; commits = self.old.commits })) }
         ensures after { OnOk result ((record { map = M.map self.new.machine; commits = self.new.commits }) ≡
-            after D.digest_of block.now (record { map = M.map self.old.machine; commits = self.old.commits })) }
+            after_block D.digest_of block.now (record { map = M.map self.old.machine; commits = self.old.commits })) }
         ensures idle { OnOk result (M.idle self.new.machine) }
     {
         let replies = self.machine.run(&block.ops)?;
@@ -49,10 +49,10 @@ impl<M: Machine + Drop, D: Digest + Drop> Replica<M, D> {
     pub fn apply_all(&mut self, alloc: Global, blocks: &[Block]) -> Result<Vec<Outcome>, NoMemory>
         requires idle { M.idle self.old.machine }
         requires countable { self.old.commits + length blocks.now < 2 ^ 64 }
-        ensures outcomes { IfOk result (λ told. seen_all told.items ≡
+        ensures outcomes { IfOk result (λ told. verdicts told.items ≡
             outcomes D.digest_of blocks.now (record { map = M.map self.old.machine; commits = self.old.commits })) }
         ensures after { OnOk result ((record { map = M.map self.new.machine; commits = self.new.commits }) ≡
-            after_all D.digest_of blocks.now (record { map = M.map self.old.machine; commits = self.old.commits })) }
+            after_blocks D.digest_of blocks.now (record { map = M.map self.old.machine; commits = self.old.commits })) }
         ensures idle { OnOk result (M.idle self.new.machine) }
     {
         let mut told = Vec::with_capacity(alloc, blocks.len())?;

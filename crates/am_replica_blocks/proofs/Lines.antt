@@ -28,7 +28,8 @@ use Rattle.am_line_dialogue.specs.declared.response.Response.TheVariants.{Replie
 use Rattle.am_line_dialogue.proofs.SaidByMap.{answer_answers, answer_counts}
 use Rattle.am_replica.specs.Bodies.{refusal_behind, own_by, own_behind, kept_behind, reply_by, reply_behind}
 use Rattle.am_replica.specs.Bodies.{replies_behind}
-use Rattle.am_replica_blocks.specs.Blocks.{Line, Asks, Stages, request_of, whole, staged_by, waiting, ops_of, told}
+use Rattle.am_replica_blocks.specs.Blocks.{BlockLine, Asks, Stages, line_request, block_lines, staged_by, waiting}
+use Rattle.am_replica_blocks.specs.Blocks.{asked_ops, told}
 use Rattle.am_replica_blocks.specs.Blocks.{loads}
 use Rattle.am_replica_blocks.specs.Blocks.{standing, IsTakenAlone, IsTried}
 use Rattle.am_replica_blocks.proofs.Runs.{same_refusal, room_for, made_few}
@@ -98,23 +99,23 @@ module _ (b c : ℕ) (m : PlainMap) where
 
   -- ---- all lines, and a last one
 
-  record Said (r : ℕ) (own : List Op) (staged : Records) (lines : List Line) (last : ParsedLine) : Type 0 where
+  record Said (r : ℕ) (own : List Op) (staged : Records) (lines : List BlockLine) (last : ParsedLine) : Type 0 where
     runs : ℕ
-    few : runs ≤ r + loads (ops_of staged lines)
-    answers : responses_to (inside r own staged) (map (λ line. Asked (request_of line)) lines ++ last ∷ []) ≡
-        map Some (told staged lines (replies_behind own m (ops_of staged lines)))
-        ++ response_due (inside runs (kept_behind own (ops_of staged lines)) (waiting staged lines)) last ∷ []
-    leads : state_behind (inside r own staged) (map (λ line. Asked (request_of line)) lines ++ last ∷ []) ≡
-        state_after_line (inside runs (kept_behind own (ops_of staged lines)) (waiting staged lines)) last
+    few : runs ≤ r + loads (asked_ops staged lines)
+    answers : responses_to (inside r own staged) (map (λ line. Asked (line_request line)) lines ++ last ∷ []) ≡
+        map Some (told staged lines (replies_behind own m (asked_ops staged lines)))
+        ++ response_due (inside runs (kept_behind own (asked_ops staged lines)) (waiting staged lines)) last ∷ []
+    leads : state_behind (inside r own staged) (map (λ line. Asked (line_request line)) lines ++ last ∷ []) ≡
+        state_after_line (inside runs (kept_behind own (asked_ops staged lines)) (waiting staged lines)) last
 
-  all_said : (r : ℕ) (own : List Op) (staged : Records) (lines : List Line) (last : ParsedLine)
-      → r + loads (ops_of staged lines) ≤ max_runs → Said r own staged lines last
+  all_said : (r : ℕ) (own : List Op) (staged : Records) (lines : List BlockLine) (last : ParsedLine)
+      → r + loads (asked_ops staged lines) ≤ max_runs → Said r own staged lines last
   all_said r own staged [] last room = record { runs = r; few = omega arith; answers = refl; leads = refl }
   all_said r own staged (Asks op ∷ lines) last room =
       let whole_op = with_staged staged op in
       let left_over = staged_left staged op in
       let next_runs = runs_by (refusal_behind own whole_op) r own whole_op in
-      let more = loads (ops_of left_over lines) in
+      let more = loads (asked_ops left_over lines) in
       let here : (may_make_run whole_op && nat_le max_runs r) ≡ false = room_for whole_op r more room in
       let few : next_runs ≤ r + cond (may_make_run whole_op) 1 0 = few_by (refusal_behind own whole_op) r own
       whole_op in
@@ -126,12 +127,12 @@ module _ (b c : ℕ) (m : PlainMap) where
         few = omega (arith, few, rest_few);
         answers =
             ap (λ s. response_due (inside r own staged) (Asked (Do op)) ∷ responses_to s
-            (map (λ line. Asked (request_of line)) lines ++ last ∷ [])) (goes r own staged op here)
+            (map (λ line. Asked (line_request line)) lines ++ last ∷ [])) (goes r own staged op here)
             ∙ ap (λ first. first ∷ responses_to (behind r own staged op here)
-            (map (λ line. Asked (request_of line)) lines ++ last ∷ [])) (says r own staged op here)
+            (map (λ line. Asked (line_request line)) lines ++ last ∷ [])) (says r own staged op here)
             ∙ ap (λ others. Some (Replied (reply_behind own m whole_op)) ∷ others) rest.answers;
         leads =
-            ap (λ s. state_behind s (map (λ line. Asked (request_of line)) lines ++ last ∷ []))
+            ap (λ s. state_behind s (map (λ line. Asked (line_request line)) lines ++ last ∷ []))
             (goes r own staged op here)
             ∙ rest.leads;
       }
@@ -143,34 +144,34 @@ module _ (b c : ℕ) (m : PlainMap) where
         few = rest.few;
         answers =
             ap (λ s. response_due (inside r own staged) (Asked (Stage records)) ∷ responses_to s
-            (map (λ line. Asked (request_of line)) lines ++ last ∷ [])) (stages r own staged records test)
+            (map (λ line. Asked (line_request line)) lines ++ last ∷ [])) (stages r own staged records test)
             ∙ ap (λ others. response_due (inside r own staged) (Asked (Stage records)) ∷ others) rest.answers;
         leads =
-            ap (λ s. state_behind s (map (λ line. Asked (request_of line)) lines ++ last ∷ []))
+            ap (λ s. state_behind s (map (λ line. Asked (line_request line)) lines ++ last ∷ []))
             (stages r own staged records test)
             ∙ rest.leads;
       }
 
 -- ---- from BEGIN on
 
-module _ (b c r : ℕ) (m : PlainMap) (lines : List Line) (few : b < max_begun)
-    (room : r + loads (ops_of [] lines) ≤ max_runs) where
+module _ (b c r : ℕ) (m : PlainMap) (lines : List BlockLine) (few : b < max_begun)
+    (room : r + loads (asked_ops [] lines) ≤ max_runs) where
   abbrev ops : List Op
-  ops = ops_of [] lines
+  ops = asked_ops [] lines
 
-  begun_answers : (last : Request) → responses_to (standing b c r m) (whole lines last) ≡
+  begun_answers : (last : Request) → responses_to (standing b c r m) (block_lines lines last) ≡
       Some (Replied (Begun (b + 1))) ∷ responses_to (inside (b + 1) c m r [] [])
-      (map (λ line. Asked (request_of line)) lines ++ Asked last ∷ [])
+      (map (λ line. Asked (line_request line)) lines ++ Asked last ∷ [])
   begun_answers last =
       ap (λ t. Some (Replied (cond t (Refused TooManyTx) (Begun (b + 1)))) ∷ responses_to
       (cond t (standing b c r m) (inside (b + 1) c m r [] []))
-      (map (λ line. Asked (request_of line)) lines ++ Asked last ∷ [])) (lt-leb max_begun b few)
+      (map (λ line. Asked (line_request line)) lines ++ Asked last ∷ [])) (lt-leb max_begun b few)
 
-  begun_leads : (last : Request) → state_behind (standing b c r m) (whole lines last) ≡
-      state_behind (inside (b + 1) c m r [] []) (map (λ line. Asked (request_of line)) lines ++ Asked last ∷ [])
+  begun_leads : (last : Request) → state_behind (standing b c r m) (block_lines lines last) ≡
+      state_behind (inside (b + 1) c m r [] []) (map (λ line. Asked (line_request line)) lines ++ Asked last ∷ [])
   begun_leads last =
       ap (λ t. state_behind (cond t (standing b c r m) (inside (b + 1) c m r [] []))
-      (map (λ line. Asked (request_of line)) lines ++ Asked last ∷ [])) (lt-leb max_begun b few)
+      (map (λ line. Asked (line_request line)) lines ++ Asked last ∷ [])) (lt-leb max_begun b few)
 
   -- the responses with the last one
   ended : (end : Response) → map Some (told [] lines (replies_behind [] m ops)) ++ Some end ∷ [] ≡

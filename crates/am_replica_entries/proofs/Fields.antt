@@ -11,7 +11,7 @@ use Rattle.std.proofs.lemmas.Nat.{be_bytes_4, from_be_bytes-to_be_bytes_4}
 use Rattle.am_replica_entries.specs.declared.block.Told.{Told}
 use Rattle.am_replica_entries.specs.declared.fault.Fault.{Fault}
 use Rattle.am_replica_entries.specs.declared.fault.Fault.TheVariants.{Short, NothingTold}
-use Rattle.am_replica_entries.specs.Texts.{string, told_bytes, WasTold}
+use Rattle.am_replica_entries.specs.Texts.{string, told_bytes, ToldHasText}
 use Rattle.am_replica_entries.specs.Reading.{◌>>=◌, form_at, number_at, string_at, lines_at, digest_at, told_at}
 
 abbrev pub IsBytes : List ℕ → Type 0
@@ -202,7 +202,7 @@ digest_again digest rest len =
     rw (long, take_at digest rest 32 len, drop_at digest rest 32 len) refl
 
 abbrev WasTaken : List ℕ → Option Told × List ℕ → Type 0
-WasTaken bytes x = Takes bytes (told_bytes x.0) x.1 × IfSome x.0 WasTold
+WasTaken bytes x = Takes bytes (told_bytes x.0) x.1 × IfSome x.0 ToldHasText
 
 one_front : (bytes text rest : List ℕ) → Takes bytes text rest → Takes (1 ∷ bytes) (1 ∷ text) rest
 one_front bytes text rest t = record { parts = ap (λ (w : List ℕ). 1 ∷ w) t.parts; fits = t.fits }
@@ -227,7 +227,8 @@ told_takes (suc zero ∷ bytes) x fits e =
     )
 told_takes (suc (suc b) ∷ bytes) x fits e = absurd cc
 
-pub told_again : (o : Option Told) (rest : List ℕ) → IfSome o WasTold → told_at (told_bytes o ++ rest) ≡ Ok (o, rest)
+pub told_again : (o : Option Told) (rest : List ℕ) → IfSome o ToldHasText → told_at (told_bytes o ++ rest) ≡ Ok
+    (o, rest)
 unfolding told_at
 told_again None rest h = refl
 told_again (Some t) rest h =

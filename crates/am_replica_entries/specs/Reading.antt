@@ -72,8 +72,8 @@ blocks_at (suc n) bytes = do
   Ok (first.0 ∷ others.0, others.1)
 
 -- all of the bytes
-unfoldable pub entry_at : List ℕ → Result (List TheBlock) Fault
-entry_at text = do
+unfoldable pub entry_in : List ℕ → Result (List TheBlock) Fault
+entry_in text = do
   rest ← form_at text
   n ← number_at w32 rest
   bs ← blocks_at n.0 n.1

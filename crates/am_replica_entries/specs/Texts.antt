@@ -10,11 +10,11 @@ pub record TheBlock : Type 0 where
   pub lines : List ℕ
   pub told : Option Told
 
-abbrev pub view : Block → TheBlock
-view b = record { lines = b.lines.items; told = b.told }
+abbrev pub the_block : Block → TheBlock
+the_block b = record { lines = b.lines.items; told = b.told }
 
-abbrev pub views : List Block → List TheBlock
-views blocks = map view blocks
+abbrev pub the_blocks : List Block → List TheBlock
+the_blocks blocks = map the_block blocks
 
 -- four bytes of length, and that many bytes
 abbrev pub string : List ℕ → List ℕ
@@ -29,18 +29,18 @@ abbrev pub block_bytes : TheBlock → List ℕ
 block_bytes b = string b.lines ++ told_bytes b.told
 
 -- the form, how many blocks, and these
-abbrev pub text_of : List TheBlock → List ℕ
-text_of blocks = 1 ∷ (to_be_bytes w32 (length blocks) ++ flat_map block_bytes blocks)
+abbrev pub entry_text : List TheBlock → List ℕ
+entry_text blocks = 1 ∷ (to_be_bytes w32 (length blocks) ++ flat_map block_bytes blocks)
 
 -- what has a text: some lines were answered, or nothing is told
-pub record WasTold (t : Told) : Type 0 where
+pub record ToldHasText (t : Told) : Type 0 where
   pub some : 0 < t.lines
   pub lines : t.lines < 2 ^ 32
   pub digest : length t.digest ≡ 32
 
-pub record Fits (b : TheBlock) : Type 0 where
+pub record HasEntryText (b : TheBlock) : Type 0 where
   pub lines : length b.lines < 2 ^ 32
-  pub told : IfSome b.told WasTold
+  pub told : IfSome b.told ToldHasText
 
 abbrev pub AreBlocks : List TheBlock → Type 0
-AreBlocks blocks = (length blocks < 2 ^ 32) × AllByRecursion Fits blocks
+AreBlocks blocks = (length blocks < 2 ^ 32) × AllByRecursion HasEntryText blocks

@@ -2,9 +2,9 @@
 
 ghost use Rattle.std.specs.Prelude.{◌≡◌, List, Ok, IfOk};
 ghost use Rattle.std.specs.Int.{w32};
-ghost use Rattle.am_replica_entries.specs.Texts.{TheBlock, view, views, AreBlocks, text_of};
+ghost use Rattle.am_replica_entries.specs.Texts.{TheBlock, the_block, the_blocks, AreBlocks, entry_text};
 ghost use Rattle.am_replica_entries.specs.Reading.{Gives, form_at, number_at, string_at, lines_at, digest_at, told_at};
-ghost use Rattle.am_replica_entries.specs.Reading.{block_at, blocks_at, entry_at};
+ghost use Rattle.am_replica_entries.specs.Reading.{block_at, blocks_at, entry_in};
 
 use crate::block::{Block, Told};
 use crate::fault::{Fault, ReadError};
@@ -91,7 +91,7 @@ fn told_of(bytes: &[u8]) -> Result<(Option<Told>, &[u8]), ReadError>
 
 #[tactic(auto, unfolding(crate::specs::Reading::block_at))]
 fn block_of(alloc: Global, bytes: &[u8]) -> Result<(Block, &[u8]), ReadError>
-    ensures { Gives (λ x. (view x.0, x.1.now)) result (block_at bytes.now) }
+    ensures { Gives (λ x. (the_block x.0, x.1.now)) result (block_at bytes.now) }
 {
     let (lines, rest) = string_of(alloc, bytes)?;
     let (told, rest) = told_of(rest)?;
@@ -99,7 +99,7 @@ fn block_of(alloc: Global, bytes: &[u8]) -> Result<(Block, &[u8]), ReadError>
 }
 
 fn blocks_of(alloc: Global, count: u32, bytes: &[u8]) -> Result<(Vec<Block>, &[u8]), ReadError>
-    ensures { Gives (λ x. (views x.0.items, x.1.now)) result (blocks_at count bytes.now) }
+    ensures { Gives (λ x. (the_blocks x.0.items, x.1.now)) result (blocks_at count bytes.now) }
 {
     let mut found = Vec::new(alloc);
     let mut rest = bytes;
@@ -113,7 +113,7 @@ fn blocks_of(alloc: Global, count: u32, bytes: &[u8]) -> Result<(Vec<Block>, &[u
 
 #[tactic(auto, unfolding(crate::specs::Reading::entry_at))]
 fn entry_of(alloc: Global, text: &[u8]) -> Result<Vec<Block>, ReadError>
-    ensures { Gives (λ v. views v.items) result (entry_at text.now) }
+    ensures { Gives (λ v. the_blocks v.items) result (entry_in text.now) }
 {
     let rest = form_at(text)?;
     let (count, rest) = u32_at(rest)?;
@@ -129,10 +129,10 @@ fn entry_of(alloc: Global, text: &[u8]) -> Result<Vec<Block>, ReadError>
 /// # Errors
 /// NoEntry, where it is none's, with the first fault; NoMemory, where memory was refused.
 pub fn read_entry(alloc: Global, text: &[u8]) -> Result<Vec<Block>, ReadError>
-    ensures found { IfOk result (λ v. AreBlocks (views v.items) × (text.now ≡ text_of (views v.items))) }
-    ensures again { (blocks : List TheBlock) → AreBlocks blocks → text.now ≡ text_of blocks →
-        Gives (λ v. views v.items) result (Ok blocks) }
-    ensures exact { Gives (λ v. views v.items) result (entry_at text.now) }
+    ensures found { IfOk result (λ v. AreBlocks (the_blocks v.items) × (text.now ≡ entry_text (the_blocks v.items))) }
+    ensures again { (blocks : List TheBlock) → AreBlocks blocks → text.now ≡ entry_text blocks →
+        Gives (λ v. the_blocks v.items) result (Ok blocks) }
+    ensures exact { Gives (λ v. the_blocks v.items) result (entry_in text.now) }
 {
     entry_of(alloc, text)
 }

@@ -6,7 +6,7 @@ use Rattle.am_record.specs.declared.step.Reply.{Reply}
 use Rattle.am_replica_log.specs.declared.event.Event.{Event}
 use Rattle.am_replica_log.specs.declared.event.Floor.{Floor}
 use Rattle.am_replica_log.specs.History.{Change, Puts, Writes, Moves, Deletes, Others, History, Told, shown}
-use Rattle.am_replica_log.specs.History.{revision_of, generation, first_behind, pieces_of}
+use Rattle.am_replica_log.specs.History.{revision_of, generation, first_behind, open_pieces}
 use Rattle.am_replica_log.specs.History.{floor as floor_of}
 use Rattle.am_replica_log.specs.LogState.{LogState}
 use Rattle.am_replica_log.specs.Readers.{IsAt}
@@ -28,7 +28,7 @@ told_at change history revision event text told = absurd (none-some _ told)
 pub joins_at : (digest : List Reply → Sum) (start at : Ordered) (read before : History) (writer log : LogState)
     (floor : Floor) (revision : ℕ) → Follows digest start (read ++ before) writer at →
     IsLeftAt floor revision (read ++ before) →
-    revision_of before ≡ first_behind revision (pieces_of (read ++ before)) →
+    revision_of before ≡ first_behind revision (open_pieces (read ++ before)) →
     log ≡ record { floor = floor.since; generation = floor.snapshot.generation - 1; pieces = [] } →
     Joins digest start (read ++ before) before log revision at
 joins_at digest start at read before writer log floor revision follows left first is =
@@ -43,7 +43,7 @@ joins_at digest start at read before writer log floor revision follows left firs
       before = before;
       is_front = refl;
       read_on = refl;
-      begun = first ∙ ap (λ r. first_behind r (pieces_of taken)) left.up_to;
+      begun = first ∙ ap (λ r. first_behind r (open_pieces taken)) left.up_to;
       reads = subst (λ l. IsAt (revision_of before) l before) (sym there) (begins read before revision left.may first);
       up_to = left.up_to;
       blocks = follows.blocks;
@@ -95,8 +95,8 @@ module _ (digest : List Reply → Sum) (start : Ordered) (known : ℕ) (at : Ord
       let there : IsAt (revision_of joins.before) log (joins.read ++ joins.before) =
       subst (λ h. IsAt (revision_of joins.before) log h) joins.read_on joins.reads in
       let first : revision_of joins.before ≡ first_behind (revision_of history)
-      (pieces_of (joins.read ++ joins.before)) =
-      joins.begun ∙ ap (λ h. first_behind (revision_of history) (pieces_of h)) joins.read_on in
+      (open_pieces (joins.read ++ joins.before)) =
+      joins.begun ∙ ap (λ h. first_behind (revision_of history) (open_pieces h)) joins.read_on in
       follows_by digest start history log at joins.blocks
       (subst (λ h. IsAt 0 log h) (sym joins.read_on)
       (reads_on joins.read joins.before (revision_of history) log first there))

@@ -2,10 +2,10 @@
 use Rattle.std.specs.Prelude.{◌≡◌, ◌⊎◌, ℕ, List, [], ◌∷◌, ◌++◌, Option, Some, None}
 use Rattle.am_record.specs.declared.step.Reply.{Reply}
 use Rattle.am_replica_log.specs.declared.pieces.Entry.{Entry}
-use Rattle.am_replica_log.specs.History.{History, entries}
+use Rattle.am_replica_log.specs.History.{History, counted_entries}
 use Rattle.am_replica_log.specs.LogState.{LogState}
 use Rattle.am_replica_log.specs.Readers.{IsAt}
-use Rattle.am_replica.specs.Ordered.{Sum, Ordered, after_all, committed, AreInTurn, left_by}
+use Rattle.am_replica.specs.Ordered.{Sum, Ordered, after_blocks, commits_of, AreInTurn, left_by}
 use Rattle.am_replica.specs.declared.block.Block.{Block}
 use Rattle.am_replica_texts.specs.Entries.{IsEntryOf, IsNoEntry, IsApplied}
 use Rattle.am_replica_texts.specs.declared.apply.EntryOutcome.{EntryOutcome}
@@ -29,10 +29,10 @@ pub record Follows (digest : List Reply → Sum) (start : Ordered) (history : Hi
     : Type 0 where
   pub reads : IsAt 0 log history
   pub blocks : List Block
-  pub of : AreOfAll digest (entries history) blocks
-  pub leads : at ≡ after_all digest blocks start
-  pub serial : AreInTurn (committed digest blocks start) start
-  pub left : at.map ≡ left_by (committed digest blocks start) start.map
+  pub of : AreOfAll digest (counted_entries history) blocks
+  pub leads : at ≡ after_blocks digest blocks start
+  pub serial : AreInTurn (commits_of digest blocks start) start
+  pub left : at.map ≡ left_by (commits_of digest blocks start) start.map
 
 -- what became of an entry's text
 abbrev pub IsTaken : (List Reply → Sum) → Option (List ℕ) → Ordered → EntryOutcome → Ordered → Type 0

@@ -2,11 +2,11 @@
 use Rattle.std.specs.Prelude.{◌≡◌, ◌+◌, ◌<◌, ℕ, List, ◌++◌}
 use Rattle.am_record.specs.declared.step.Reply.{Reply}
 use Rattle.am_replica_log.specs.declared.event.Floor.{Floor}
-use Rattle.am_replica_log.specs.History.{History, entries, revision_of, generation, first_behind, pieces_of}
+use Rattle.am_replica_log.specs.History.{History, counted_entries, revision_of, generation, first_behind, open_pieces}
 use Rattle.am_replica_log.specs.History.{floor as floor_of}
 use Rattle.am_replica_log.specs.LogState.{LogState}
 use Rattle.am_replica_log.specs.Readers.{IsAt}
-use Rattle.am_replica.specs.Ordered.{Sum, Ordered, after_all}
+use Rattle.am_replica.specs.Ordered.{Sum, Ordered, after_blocks}
 use Rattle.am_replica.specs.declared.block.Block.{Block}
 use Rattle.am_replica_follower.specs.Following.{AreOfAll}
 
@@ -27,9 +27,9 @@ pub record Joins (digest : List Reply → Sum) (start : Ordered) (taken history 
   pub before : History
   pub is_front : taken ≡ rest ++ history
   pub read_on : history ≡ read ++ before
-  pub begun : revision_of before ≡ first_behind (revision_of taken) (pieces_of taken)
+  pub begun : revision_of before ≡ first_behind (revision_of taken) (open_pieces taken)
   pub reads : IsAt (revision_of before) log history
   pub up_to : known ≡ revision_of taken
   pub blocks : List Block
-  pub of : AreOfAll digest (entries taken) blocks
-  pub leads : at ≡ after_all digest blocks start
+  pub of : AreOfAll digest (counted_entries taken) blocks
+  pub leads : at ≡ after_blocks digest blocks start

@@ -2,7 +2,7 @@
 
 ghost use Rattle.std.specs.Prelude.{◌≡◌, ◌<◌, ◌≤◌, ◌^◌, [], ◌∷◌, ◌++◌, Some, None, true, IfOk, OnOk};
 ghost use Rattle.am_replica_log.specs.History.{History, Change, shown, counted_by, revision_of, first_behind};
-ghost use Rattle.am_replica_log.specs.History.{pieces_of};
+ghost use Rattle.am_replica_log.specs.History.{open_pieces};
 ghost use Rattle.am_replica_log.specs.LogState.{LogState};
 ghost use Rattle.am_replica_log.specs.Readers.{is_stray};
 ghost use Rattle.am_replica.specs.Ordered.{Ordered};
@@ -61,7 +61,7 @@ impl<M: Machine + Drop, D: Digest + Drop> Follower<M, D> {
         ensures joins { (start : Ordered) (read before : History) (writer : LogState) →
             Follows D.digest_of start (read ++ before) writer (record { map = M.map machine; commits = commits }) →
             IsLeftAt floor revision (read ++ before) →
-            revision_of before ≡ first_behind revision (pieces_of (read ++ before)) →
+            revision_of before ≡ first_behind revision (open_pieces (read ++ before)) →
             Joins D.digest_of start (read ++ before) before result.log result.known
             (record { map = M.map machine; commits = commits }) }
     {

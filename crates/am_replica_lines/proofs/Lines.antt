@@ -23,7 +23,7 @@ use Rattle.am_line_dialogue.specs.ParsedLine.{Line as TextLine, parsed, parsed_o
 use Rattle.am_line_dialogue.specs.Session.{SessionState}
 use Rattle.am_line_dialogue.specs.declared.lines.ParsedLine.{ParsedLine}
 use Rattle.am_line_dialogue.specs.declared.lines.ParsedLine.TheVariants.{Asked, Faulty}
-use Rattle.am_replica_blocks.specs.Blocks.{Line, Asks, Stages, request_of, staged_by, waiting, ops_of}
+use Rattle.am_replica_blocks.specs.Blocks.{BlockLine, Asks, Stages, line_request, staged_by, waiting, asked_ops}
 use Rattle.am_replica_lines.specs.Lines.{said, asked_by, is_own, at_work, op_by, TakesLine}
 
 -- ---- what a line was parsed as, where it wasn't refused memory
@@ -41,8 +41,8 @@ parsed_asks None request h = cc
 parsed_asks (Some text) request h = asks_whole text h.0 request h.1 h.2
 
 -- what came of the line, where it was taken
-pub takes_by : {E : Type 0} (staged : Records) (line : Line) {says : ParsedLine} (result : Result (Option Op) E)
-    (after : SessionState) → says ≡ Asked (request_of line) → IfOk result (λ op. op ≡ op_by staged line) →
+pub takes_by : {E : Type 0} (staged : Records) (line : BlockLine) {says : ParsedLine} (result : Result (Option Op) E)
+    (after : SessionState) → says ≡ Asked (line_request line) → IfOk result (λ op. op ≡ op_by staged line) →
     IfOk result (λ _. after ≡ at_work (waiting staged (line ∷ []))) →
     IfOk result (λ op. TakesLine staged says op after)
 takes_by staged line (Ok op) after asks by left = record { line = line; asks = asks; by = by; left = left }
@@ -70,15 +70,15 @@ with_none line front last is other = is ∙ sym (ap without_cr is ∙ without_cr
 
 -- ---- all lines
 
-pub ops_of-push : (staged : Records) (lines : List Line) (line : Line) →
-    ops_of staged (lines ++ line ∷ []) ≡ ops_of staged lines ++ option_to_list (op_by (waiting staged lines) line)
+pub ops_of-push : (staged : Records) (lines : List BlockLine) (line : BlockLine) →
+    asked_ops staged (lines ++ line ∷ []) ≡ asked_ops staged lines ++ option_to_list (op_by (waiting staged lines) line)
 ops_of-push staged [] (Asks op) = refl
 ops_of-push staged [] (Stages records) = refl
 ops_of-push staged (Asks op ∷ lines) line =
     ap (λ ops. with_staged staged op ∷ ops) (ops_of-push (staged_left staged op) lines line)
 ops_of-push staged (Stages records ∷ lines) line = ops_of-push (staged_by staged records) lines line
 
-pub waiting-push : (staged : Records) (lines : List Line) (line : Line) →
+pub waiting-push : (staged : Records) (lines : List BlockLine) (line : BlockLine) →
     waiting staged (lines ++ line ∷ []) ≡ waiting (waiting staged lines) (line ∷ [])
 waiting-push staged [] line = refl
 waiting-push staged (Asks op ∷ lines) line = waiting-push (staged_left staged op) lines line
@@ -88,12 +88,12 @@ waiting-push staged (Stages records ∷ lines) line = waiting-push (staged_by st
 
 -- those that were read are a block's lines, and the text goes on with the others
 pub record Reads (text rest : List ℕ) (first number told : ℕ) (ops : List Op) (s : SessionState) : Type 0 where
-  pub lines : List Line
+  pub lines : List BlockLine
   pub asks : said text ≡ asked_by lines ++ said rest
-  pub all : ops ≡ ops_of [] lines
+  pub all : ops ≡ asked_ops [] lines
   pub at : s ≡ at_work (waiting [] lines)
   pub each : number ≡ length lines
-  pub of_first : told ≡ length (ops_of [] (take first lines))
+  pub of_first : told ≡ length (asked_ops [] (take first lines))
 
 pub reads_none : (text : List ℕ) (first : ℕ) (s : SessionState) → s ≡ at_work [] → Reads text text first 0 0 [] s
 reads_none text first s at = record {
@@ -102,10 +102,10 @@ reads_none text first s at = record {
   all = refl;
   at = at;
   each = refl;
-  of_first = ap (λ lines. length (ops_of [] lines)) (sym (take_none first));
+  of_first = ap (λ lines. length (asked_ops [] lines)) (sym (take_none first));
 }
   where
-    take_none : (n : ℕ) → take {A = Line} n [] ≡ []
+    take_none : (n : ℕ) → take {A = BlockLine} n [] ≡ []
     take_none zero = refl
     take_none (suc n) = refl
 
@@ -113,14 +113,14 @@ said-cut : (rest line after : List ℕ) → pieces_of rest ≡ line ∷ pieces_o
     said rest ≡ parsed (line_of line) ∷ said after
 said-cut rest line after cut = ap (λ pieces. map parsed (map line_of pieces)) cut
 
-first_told : (n first : ℕ) (lines : List Line) (line : Line) (told asked : ℕ) → n ≡ length lines →
-    told ≡ length (ops_of [] (take first lines)) → asked ≡ length (ops_of [] (lines ++ line ∷ [])) →
-    cond (nat_le (n + 1) first) asked told ≡ length (ops_of [] (take first (lines ++ line ∷ [])))
+first_told : (n first : ℕ) (lines : List BlockLine) (line : BlockLine) (told asked : ℕ) → n ≡ length lines →
+    told ≡ length (asked_ops [] (take first lines)) → asked ≡ length (asked_ops [] (lines ++ line ∷ [])) →
+    cond (nat_le (n + 1) first) asked told ≡ length (asked_ops [] (take first (lines ++ line ∷ [])))
 first_told n first lines line told asked each of_first all = cond_both (nat_le (n + 1) first) asked told
-    (λ t. t ≡ length (ops_of [] (take first (lines ++ line ∷ []))))
-    (λ is. all ∙ ap (λ ls. length (ops_of [] ls)) (sym (take_all first (lines ++ line ∷ [])
+    (λ t. t ≡ length (asked_ops [] (take first (lines ++ line ∷ []))))
+    (λ is. all ∙ ap (λ ls. length (asked_ops [] ls)) (sym (take_all first (lines ++ line ∷ [])
     (omega (arith, leb-true (n + 1) first is, each, length-append lines (line ∷ []))))))
-    (λ is. of_first ∙ ap (λ ls. length (ops_of [] ls)) (sym (take-append-le first lines (line ∷ [])
+    (λ is. of_first ∙ ap (λ ls. length (asked_ops [] ls)) (sym (take-append-le first lines (line ∷ [])
     (omega (arith, leb-false (n + 1) first is, each)))))
 
 pub read_more : (text rest line after : List ℕ) (first number told told' : ℕ) (ops ops' : List Op) (s s' : SessionState)
@@ -129,15 +129,15 @@ pub read_more : (text rest line after : List ℕ) (first number told told' : ℕ
     told' ≡ cond (nat_le (number + 1) first) (length ops') told → Reads text after first (number + 1) told' ops' s'
 read_more text rest line after first number told told' ops ops' s s' op reads cut takes put is =
     let lines = reads.lines in
-    let all : ops' ≡ ops_of [] (lines ++ takes.line ∷ []) =
+    let all : ops' ≡ asked_ops [] (lines ++ takes.line ∷ []) =
     put ∙ (λ i. reads.all i ++ option_to_list (takes.by i)) ∙ sym (ops_of-push [] lines takes.line) in
     record {
       lines = lines ++ takes.line ∷ [];
       asks = reads.asks ∙ ap (λ more. asked_by lines ++ more)
           (said-cut rest line after cut ∙ ap (λ p. p ∷ said after) takes.asks)
-          ∙ sym (append_assoc (asked_by lines) (Asked (request_of takes.line) ∷ []) (said after))
+          ∙ sym (append_assoc (asked_by lines) (Asked (line_request takes.line) ∷ []) (said after))
           ∙ ap (λ asked. asked ++ said after)
-          (sym (map-append (λ (l : Line). Asked (request_of l)) lines (takes.line ∷ [])));
+          (sym (map-append (λ (l : BlockLine). Asked (line_request l)) lines (takes.line ∷ [])));
       all = all;
       at = takes.left ∙ ap at_work (sym (waiting-push [] lines takes.line));
       each = omega (arith, reads.each, length-append lines (takes.line ∷ []));

@@ -14,14 +14,14 @@ use Rattle.am_replica_entries.specs.declared.block.Told.{Told}
 use Rattle.am_replica_entries.specs.Texts.{TheBlock}
 use Rattle.am_replica.specs.Ordered.{Sum}
 use Rattle.am_replica.specs.declared.block.Block.{Block}
-use Rattle.am_replica_blocks.specs.Blocks.{Line, Asks, Stages, request_of, waiting, ops_of}
+use Rattle.am_replica_blocks.specs.Blocks.{BlockLine, Asks, Stages, line_request, waiting, asked_ops}
 
 -- what the lines of a text say, and what the lines of a block do
 abbrev pub said : List ℕ → List ParsedLine
 said text = map parsed (lines_of text)
 
-abbrev pub asked_by : List Line → List ParsedLine
-asked_by lines = map (λ line. Asked (request_of line)) lines
+abbrev pub asked_by : List BlockLine → List ParsedLine
+asked_by lines = map (λ line. Asked (line_request line)) lines
 
 -- whether a line asks for an operation, or has records wait
 abbrev pub is_own : ParsedLine → Bool
@@ -34,29 +34,29 @@ abbrev pub at_work : Records → SessionState
 at_work staged = record { active = Some 1; staged = staged }
 
 -- the operation that a line asks for with what waits
-abbrev pub op_by : Records → Line → Option Op
+abbrev pub op_by : Records → BlockLine → Option Op
 op_by staged (Asks op) = Some (with_staged staged op)
 op_by staged (Stages records) = None
 
 -- the line is one of a block's: it asks for this operation, and leaves the session there
 pub record TakesLine (staged : Records) (says : ParsedLine) (op : Option Op) (after : SessionState) : Type 0 where
-  pub line : Line
-  pub asks : says ≡ Asked (request_of line)
+  pub line : BlockLine
+  pub asks : says ≡ Asked (line_request line)
   pub by : op ≡ op_by staged line
   pub left : after ≡ at_work (waiting staged (line ∷ []))
 
 -- a text's lines are a block's, of which none leaves records waiting: their operations, and how many of these the first
 -- lines ask for
 pub record AsksOps (text : List ℕ) (first : ℕ) (ops : List Op) (told : ℕ) : Type 0 where
-  pub lines : List Line
+  pub lines : List BlockLine
   pub asks : said text ≡ asked_by lines
-  pub all : ops ≡ ops_of [] lines
+  pub all : ops ≡ asked_ops [] lines
   pub none_waits : waiting [] lines ≡ []
-  pub of_first : told ≡ length (ops_of [] (take first lines))
+  pub of_first : told ≡ length (asked_ops [] (take first lines))
 
 -- they are a block's, but records wait at their end
 pub record LeavesWaiting (text : List ℕ) : Type 0 where
-  pub lines : List Line
+  pub lines : List BlockLine
   pub asks : said text ≡ asked_by lines
   pub some_wait : waiting [] lines ≢ []
 

@@ -3,7 +3,7 @@
 ghost use Rattle.std.specs.Prelude.{◌≡◌, [], ◌∷◌, ◌++◌, false, cond, nat_le, IfOk, OnOk};
 ghost use Rattle.std.specs.List.{list_all};
 ghost use Rattle.std.specs.Option.{option_to_list};
-ghost use Rattle.am_replica_entries.specs.Texts.{view};
+ghost use Rattle.am_replica_entries.specs.Texts.{the_block};
 ghost use Rattle.am_replica_lines.specs.Lines.{said, is_own, AsksOps, LeavesWaiting, IsBlockOf, told_lines};
 
 use crate::fault::BlockFault;
@@ -31,7 +31,7 @@ pub fn read_block<D: Digest>(
     digest: &D,
     entry: &am_replica_entries::Block,
 ) -> Result<Block, BlockFault>
-    ensures read { IfOk result (λ block. IsBlockOf D.digest_of (view entry.now) block) }
+    ensures read { IfOk result (λ block. IsBlockOf D.digest_of (the_block entry.now) block) }
     ensures other { result ≡ Err BlockFault.OtherLine → list_all is_own (said entry.now.lines.items) ≡ false }
     ensures staged { result ≡ Err BlockFault.StillStaged → LeavesWaiting entry.now.lines.items }
 {

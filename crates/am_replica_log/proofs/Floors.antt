@@ -9,7 +9,7 @@ use Rattle.am_replica_log.specs.declared.event.Part.TheVariants.{Piece as PieceP
 use Rattle.am_replica_log.specs.declared.pieces.Piece.{Piece}
 use Rattle.am_replica_log.specs.History.{Puts, Moves, History, floor, generation, revision_of, same, counts}
 use Rattle.am_replica_log.specs.History.{pieces_behind}
-use Rattle.am_replica_log.specs.History.{pieces_of, first_behind}
+use Rattle.am_replica_log.specs.History.{open_pieces, first_behind}
 use Rattle.am_replica_log.proofs.Filters.{each_push, each_weaker, each_filter}
 
 pub floor_came : (h : History) → floor h ≤ revision_of h
@@ -48,14 +48,14 @@ either_came low high true xs ys p q = p
 either_came low high false xs ys p q = q
 
 -- the pieces whose heads haven't come came after the floor
-pub pieces_came : (h : History) → AllByRecursion (Came (floor h) (revision_of h)) (pieces_of h)
+pub pieces_came : (h : History) → AllByRecursion (Came (floor h) (revision_of h)) (open_pieces h)
 pieces_came [] = tt
 pieces_came (Puts g name part text ∷ b) =
     either_came (floor b) (revision_of b + 1) (counts g name part b) _ _
-    (part_came (floor b) (revision_of b) name part text (pieces_of b) (floor_came b) (pieces_came b))
-    (one_more (floor b) (revision_of b) (pieces_of b) (pieces_came b))
+    (part_came (floor b) (revision_of b) name part text (open_pieces b) (floor_came b) (pieces_came b))
+    (one_more (floor b) (revision_of b) (open_pieces b) (pieces_came b))
 pieces_came (Moves f ∷ b) = tt
-pieces_came (change ∷ b) = one_more (floor b) (revision_of b) (pieces_of b) (pieces_came b)
+pieces_came (change ∷ b) = one_more (floor b) (revision_of b) (open_pieces b) (pieces_came b)
 
 -- the floor stands where it stood at a revision that it isn't above
 pub same_floor : (read b : History) → floor (read ++ b) ≤ revision_of b → floor (read ++ b) ≡ floor b

@@ -12,9 +12,10 @@ use Rattle.am_replica_log.specs.declared.event.Snapshot.{Snapshot}
 use Rattle.am_replica_log.specs.declared.event.Part.TheVariants.{Piece as PiecePart, Head}
 use Rattle.am_replica_log.specs.declared.pieces.Entry.{Entry}
 use Rattle.am_replica_log.specs.declared.deletion.Deletion.{Deletion}
-use Rattle.am_replica_log.specs.History.{Puts, Moves, Deletes, History, same, same_part, same_entry, generation, names}
-use Rattle.am_replica_log.specs.History.{is_done, is_there, counts, pieces_of, joined, entries}
-use Rattle.am_replica_log.specs.Writers.{has_counted, deletion_of, IsAllowed}
+use Rattle.am_replica_log.specs.History.{Puts, Moves, Deletes, History, same, is_same_part, same_entry, generation}
+use Rattle.am_replica_log.specs.History.{names}
+use Rattle.am_replica_log.specs.History.{is_done, is_there, counts, open_pieces, joined, counted_entries}
+use Rattle.am_replica_log.specs.Writers.{has_counted, deletion_of, AllKeepPremise}
 
 -- the snapshot that the floor names is of the present generation
 pub named_now : (s : Snapshot) (b : History) → names s b ≡ true → generation b ≡ s.generation
@@ -24,7 +25,7 @@ named_now s (Moves f ∷ b) h = sym (eqb-true s.generation f.snapshot.generation
 named_now s (change ∷ b) h = named_now s b h
 
 -- what counted did so under a generation that has begun
-counted_began : (g : ℕ) (name : Name) (b : History) → IsAllowed b → has_counted g name b ≡ true → g ≤ generation b
+counted_began : (g : ℕ) (name : Name) (b : History) → AllKeepPremise b → has_counted g name b ≡ true → g ≤ generation b
 counted_began g name [] ok h = absurd (false≢true h)
 counted_began g name (Puts k other Head text ∷ b) ok h =
     elim (or_cases ((g == k) && (same name other && counts k other Head b)) (has_counted g name b) h) [
@@ -59,7 +60,8 @@ spared d b made =
     ap (λ e. is_done e b && ltb (generation b) d.generation) made.1 ∙ spares d made.0 b made.1 (names made.0 b) refl
 
 -- what counted under the present generation is there
-counted_stays : (g : ℕ) (name : Name) (b : History) → IsAllowed b → generation b ≡ g → has_counted g name b ≡ true →
+counted_stays : (g : ℕ) (name : Name) (b : History) → AllKeepPremise b → generation b ≡ g →
+    has_counted g name b ≡ true →
     is_there g name Head b ≡ true
 counted_stays g name [] ok at h = absurd (false≢true h)
 counted_stays g name (Puts k other Head text ∷ b) ok at h =
@@ -67,14 +69,14 @@ counted_stays g name (Puts k other Head text ∷ b) ok at h =
       | inl e ↦
           let p = and_parts (g == k) (same name other && counts k other Head b) e in
           let q = and_parts (same name other) (counts k other Head b) p.1 in
-          or_left ((g == k) && (same name other && same_part Head Head)) (is_there g name Head b)
-          (and_from (g == k) (same name other && same_part Head Head) p.0
-          (and_from (same name other) (same_part Head Head) q.0 refl))
-      | inr e ↦ or_right ((g == k) && (same name other && same_part Head Head)) (is_there g name Head b)
+          or_left ((g == k) && (same name other && is_same_part Head Head)) (is_there g name Head b)
+          (and_from (g == k) (same name other && is_same_part Head Head) p.0
+          (and_from (same name other) (is_same_part Head Head) q.0 refl))
+      | inr e ↦ or_right ((g == k) && (same name other && is_same_part Head Head)) (is_there g name Head b)
           (counted_stays g name b ok.1 at e)
     ]
 counted_stays g name (Puts k other (PiecePart n) text ∷ b) ok at h =
-    or_right ((g == k) && (same name other && same_part Head (PiecePart n))) (is_there g name Head b)
+    or_right ((g == k) && (same name other && is_same_part Head (PiecePart n))) (is_there g name Head b)
     (counted_stays g name b ok.1 at h)
 counted_stays g name (Moves f ∷ b) ok at h =
     let next : f.snapshot.generation ≡ generation b + 1 = ok.0.1 in
@@ -90,7 +92,7 @@ counted_stays g name (Deletes d ∷ b) ok at h =
 counted_stays g name (change ∷ b) ok at h = counted_stays g name b ok.1 at h
 
 -- an entry that counts now counted never before
-fresh : (k : ℕ) (name : Name) (b : History) → IsAllowed b → ((h : ℕ) → h < k → has_counted h name b ≡ false) →
+fresh : (k : ℕ) (name : Name) (b : History) → AllKeepPremise b → ((h : ℕ) → h < k → has_counted h name b ≡ false) →
     counts k name Head b ≡ true
     → (g : ℕ) → has_counted g name b ≡ false
 fresh k name b ok below counted g =
@@ -133,17 +135,18 @@ piece_ends_nothing true rest = refl
 piece_ends_nothing false rest = refl
 
 -- where it counted under no generation, it isn't among the entries
-uncounted : (name : Name) (b : History) → ((g : ℕ) → has_counted g name b ≡ false) → Apart name (entries b)
+uncounted : (name : Name) (b : History) → ((g : ℕ) → has_counted g name b ≡ false) → Apart name (counted_entries b)
 uncounted name [] never = tt
 uncounted name (Puts k other Head text ∷ b) never =
     let parts = or_parts ((k == k) && (same name other && counts k other Head b)) (has_counted k name b) (never k) in
     let rest = uncounted name b (λ g. (or_parts ((g == k) && (same name other && counts k other Head b))
     (has_counted g name b) (never g)).1) in
-    apart_from name (record { name = other; text = joined other (pieces_of b) text }) (counts k other Head b)
-    (entries b)
+    apart_from name (record { name = other; text = joined other (open_pieces b) text }) (counts k other Head b)
+    (counted_entries b)
     (differs name other k (counts k other Head b) parts.0) rest
 uncounted name (Puts k other (PiecePart n) text ∷ b) never =
-    subst (Apart name) (sym (piece_ends_nothing (counts k other (PiecePart n) b) (entries b))) (uncounted name b never)
+    subst (Apart name) (sym (piece_ends_nothing (counts k other (PiecePart n) b) (counted_entries b)))
+    (uncounted name b never)
 uncounted name (change ∷ b) never = uncounted name b never
 
 head_by : (e : Entry) (did : Bool) (rest : List Entry) → IsDistinct same_entry rest → (did ≡ true → Apart e.name rest)
@@ -152,20 +155,21 @@ unfolding IsDistinct
 head_by e true rest apart new = (new refl, apart)
 head_by e false rest apart new = apart
 
-pub once : (b : History) → IsAllowed b → IsDistinct same_entry (entries b)
+pub once : (b : History) → AllKeepPremise b → IsDistinct same_entry (counted_entries b)
 unfolding IsDistinct
 once [] ok = tt
 once (Puts k name Head text ∷ b) ok =
-    head_by (record { name = name; text = joined name (pieces_of b) text }) (counts k name Head b) (entries b)
+    head_by (record { name = name; text = joined name (open_pieces b) text }) (counts k name Head b) (counted_entries b)
     (once b ok.1)
     (λ counted. uncounted name b (fresh k name b ok.1 ok.0.1 counted))
 once (Puts k name (PiecePart n) text ∷ b) ok =
-    subst (IsDistinct same_entry) (sym (piece_ends_nothing (counts k name (PiecePart n) b) (entries b))) (once b ok.1)
+    subst (IsDistinct same_entry) (sym (piece_ends_nothing (counts k name (PiecePart n) b) (counted_entries b)))
+    (once b ok.1)
 once (change ∷ b) ok = once b ok.1
 
 -- ---- puts that come late
 
-pub generations_rise : (later b : History) → IsAllowed (later ++ b) → generation b ≤ generation (later ++ b)
+pub generations_rise : (later b : History) → AllKeepPremise (later ++ b) → generation b ≤ generation (later ++ b)
 generations_rise [] b ok = omega arith
 generations_rise (Moves f ∷ later) b ok =
     let rest : generation b ≤ generation (later ++ b) = generations_rise later b ok.1 in
@@ -174,7 +178,7 @@ generations_rise (Moves f ∷ later) b ok =
 generations_rise (change ∷ later) b ok = generations_rise later b ok.1
 
 -- what didn't count under a generation that is over never does
-pub never_later : (g : ℕ) (name : Name) (later b : History) → IsAllowed (later ++ b) → g < generation b →
+pub never_later : (g : ℕ) (name : Name) (later b : History) → AllKeepPremise (later ++ b) → g < generation b →
     has_counted g name b ≡ false
     → has_counted g name (later ++ b) ≡ false
 never_later g name [] b ok over never = never

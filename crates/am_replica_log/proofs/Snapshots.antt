@@ -8,7 +8,7 @@ use Rattle.am_replica_log.specs.declared.deletion.Deletion.{Deletion}
 use Rattle.am_replica_log.specs.History.{Writes, Moves, Deletes, History, same_snapshot, generation, names, is_done}
 use Rattle.am_replica_log.specs.History.{lets_go}
 use Rattle.am_replica_log.specs.History.{is_whole}
-use Rattle.am_replica_log.specs.Writers.{was_written, deletion_of, IsAllowed, named}
+use Rattle.am_replica_log.specs.Writers.{was_written, deletion_of, AllKeepPremise, snapshot_named}
 use Rattle.am_replica_log.proofs.Once.{named_now}
 
 -- what a deletion leaves stays where it stood
@@ -38,16 +38,16 @@ next_stays : (t s : Snapshot) → t.generation < s.generation → lets_go (delet
 next_stays t s h = ap (λ n. not n && not (same_snapshot t s)) (lt-ltb t.generation s.generation h)
 
 -- what two names of one floor have
-same_names : (t s : Snapshot) (b : History) → names t b ≡ true → named b ≡ Some s → same_snapshot t s ≡ true
+same_names : (t s : Snapshot) (b : History) → names t b ≡ true → snapshot_named b ≡ Some s → same_snapshot t s ≡ true
 same_names t s [] h n = absurd (false≢true h)
 same_names t s (Moves f ∷ b) h n = let e : f.snapshot ≡ s = cc in subst (λ r. same_snapshot t r ≡ true) e h
 same_names t s (change ∷ b) h n = same_names t s b h n
 
 -- the snapshots that are to stay: the named one, and each of the next generation that was written since
 abbrev IsKept : Snapshot → History → Type 0
-IsKept s b = (named b ≡ Some s) ⊎ ((s.generation ≡ generation b + 1) × (was_written s b ≡ true))
+IsKept s b = (snapshot_named b ≡ Some s) ⊎ ((s.generation ≡ generation b + 1) × (was_written s b ≡ true))
 
-pub kept_stays : (s : Snapshot) (b : History) → IsAllowed b → IsKept s b → is_whole s b ≡ true
+pub kept_stays : (s : Snapshot) (b : History) → AllKeepPremise b → IsKept s b → is_whole s b ≡ true
 kept_stays s [] ok kept = elim kept [ inl e ↦ absurd (cc) | inr e ↦ absurd (false≢true e.1) ]
 kept_stays s (Writes t ∷ b) ok kept =
     elim kept [
@@ -79,9 +79,10 @@ kept_stays s (Deletes d ∷ b) ok kept =
     (kept_stays s b ok.1 kept)
 kept_stays s (change ∷ b) ok kept = kept_stays s b ok.1 kept
 
-named_by : (o : Option Snapshot) (b : History) → named b ≡ o → IsAllowed b → IfSome o (λ s. is_whole s b ≡ true)
+named_by : (o : Option Snapshot) (b : History) → snapshot_named b ≡ o → AllKeepPremise b →
+    IfSome o (λ s. is_whole s b ≡ true)
 named_by None b e ok = tt
 named_by (Some s) b e ok = kept_stays s b ok (inl e)
 
-pub named_stays : (b : History) → IsAllowed b → IfSome (named b) (λ s. is_whole s b ≡ true)
-named_stays b ok = named_by (named b) b refl ok
+pub named_stays : (b : History) → AllKeepPremise b → IfSome (snapshot_named b) (λ s. is_whole s b ≡ true)
+named_stays b ok = named_by (snapshot_named b) b refl ok

@@ -17,7 +17,7 @@ use Rattle.am_replica_log.specs.LogState.{LogState}
 use Rattle.am_replica_log.specs.History.{Change, Puts, Moves, History, floor, generation, revision_of, same, is_there}
 use Rattle.am_replica_log.specs.History.{counts}
 use Rattle.am_replica_log.specs.History.{pieces_behind}
-use Rattle.am_replica_log.specs.History.{pieces_of, ended_by, Told, shown, first_behind}
+use Rattle.am_replica_log.specs.History.{open_pieces, ended_by, Told, shown, first_behind}
 use Rattle.am_replica_log.specs.Readers.{behind, IsAt, counted_for}
 use Rattle.am_replica_log.proofs.Filters.{each_weaker, filter_keeps, filter_drops, filters_turn}
 use Rattle.am_replica_log.proofs.Floors.{floor_came, Came, pieces_came, same_floor, same_generation, first_is_low}
@@ -45,15 +45,16 @@ module _ (from : ℕ) (log : LogState) (b : History) (at : IsAt from log b) wher
     floor = at.floor;
     generation = at.generation;
     pieces = ap (λ pieces. pieces_behind name part (revision_of b + 1) text pieces) at.pieces
-        ∙ behind_part from (revision_of b + 1) name part text (pieces_of b) (omega arith)
-        ∙ ap (λ t. behind from (cond t (pieces_behind name part (revision_of b + 1) text (pieces_of b)) (pieces_of b)))
+        ∙ behind_part from (revision_of b + 1) name part text (open_pieces b) (omega arith)
+        ∙ ap (λ t. behind from (cond t (pieces_behind name part (revision_of b + 1) text (open_pieces b))
+        (open_pieces b)))
         (sym counted);
   }
 
   pub tells_part : (g : ℕ) (name : Name) (part : Part) (text : List ℕ) → counts g name part b ≡ true
       → counted_for from (Puts g name part text) b ≡ ended_by name part text log.pieces
   tells_part g name part text counted =
-      ap (λ t. cond t (ended_by name part text (behind from (pieces_of b))) None) counted
+      ap (λ t. cond t (ended_by name part text (behind from (open_pieces b))) None) counted
       ∙ ap (λ pieces. ended_by name part text pieces) (sym at.pieces)
 
   pub passes_part : (g : ℕ) (name : Name) (part : Part) (text : List ℕ) → counts g name part b ≡ false
@@ -62,13 +63,14 @@ module _ (from : ℕ) (log : LogState) (b : History) (at : IsAt from log b) wher
     floor = at.floor;
     generation = at.generation;
     pieces = at.pieces
-        ∙ ap (λ t. behind from (cond t (pieces_behind name part (revision_of b + 1) text (pieces_of b)) (pieces_of b)))
+        ∙ ap (λ t. behind from (cond t (pieces_behind name part (revision_of b + 1) text (open_pieces b))
+        (open_pieces b)))
         (sym uncounted);
   }
 
   pub tells_none : (g : ℕ) (name : Name) (part : Part) (text : List ℕ) → counts g name part b ≡ false
       → counted_for from (Puts g name part text) b ≡ None
-  tells_none g name part text uncounted = ap (λ t. cond t (ended_by name part text (behind from (pieces_of b))) None)
+  tells_none g name part text uncounted = ap (λ t. cond t (ended_by name part text (behind from (open_pieces b))) None)
       uncounted
 
 -- ---- what is told
@@ -123,19 +125,19 @@ module _ (from : ℕ) (log : LogState) (b : History) (is : IsAt from log b) wher
 -- ---- a reader that begins by a snapshot
 
 pub begins : (read b : History) (revision : ℕ) → floor (read ++ b) < revision → revision_of b ≡ first_behind revision
-    (pieces_of (read ++ b))
+    (open_pieces (read ++ b))
     → IsAt (revision_of b) (record { floor = floor (read ++ b); generation = generation (read ++ b); pieces = [] }) b
 begins read b revision under first =
-    let low : floor (read ++ b) ≤ first_behind revision (pieces_of (read ++ b)) =
-    first_is_low (floor (read ++ b)) revision (pieces_of (read ++ b)) (revision_of (read ++ b)) (omega arith)
+    let low : floor (read ++ b) ≤ first_behind revision (open_pieces (read ++ b)) =
+    first_is_low (floor (read ++ b)) revision (open_pieces (read ++ b)) (revision_of (read ++ b)) (omega arith)
     (pieces_came (read ++ b)) in
     let here : floor (read ++ b) ≤ revision_of b = omega arith in
     record {
       floor = same_floor read b here;
       generation = same_generation read b here;
-      pieces = sym (filter_drops (λ p. ltb (revision_of b) p.revision) (pieces_of b)
+      pieces = sym (filter_drops (λ p. ltb (revision_of b) p.revision) (open_pieces b)
           (each_weaker (Came (floor b) (revision_of b)) (λ p. ltb (revision_of b) p.revision ≡ false)
-          (λ p came. le-ltb (revision_of b) p.revision came.1) (pieces_of b) (pieces_came b)));
+          (λ p came. le-ltb (revision_of b) p.revision came.1) (open_pieces b) (pieces_came b)));
     }
 
 keeps_all : (from : ℕ) (pieces : List Piece) → AllByRecursion (λ p. from < p.revision) pieces →
@@ -145,10 +147,10 @@ keeps_all from pieces all = filter_keeps (λ p. ltb from p.revision) pieces
     pieces all)
 
 pub follows : (read b : History) (revision : ℕ) (log : LogState) → revision_of b ≡ first_behind revision
-    (pieces_of (read ++ b))
+    (open_pieces (read ++ b))
     → IsAt (revision_of b) log (read ++ b) → IsAt 0 log (read ++ b)
 follows read b revision log first at =
-    let pieces = pieces_of (read ++ b) in
+    let pieces = open_pieces (read ++ b) in
     let came = pieces_came (read ++ b) in
     let late : AllByRecursion (λ p. revision_of b < p.revision) pieces =
     all_behind_first (floor (read ++ b)) revision pieces (revision_of (read ++ b)) came (revision_of b) (omega arith) in

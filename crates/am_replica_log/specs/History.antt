@@ -32,10 +32,10 @@ same a b = (a.writer == b.writer) && (a.number == b.number)
 abbrev pub same_snapshot : Snapshot → Snapshot → Bool
 same_snapshot s t = (s.generation == t.generation) && (s.writer == t.writer)
 
-abbrev pub same_part : Part → Part → Bool
-same_part (PiecePart n) (PiecePart m) = n == m
-same_part Head Head = true
-same_part _ _ = false
+abbrev pub is_same_part : Part → Part → Bool
+is_same_part (PiecePart n) (PiecePart m) = n == m
+is_same_part Head Head = true
+is_same_part _ _ = false
 
 -- ---- the floor
 
@@ -64,12 +64,12 @@ names s (change ∷ before) = names s before
 -- ---- deletions
 
 -- whether a deletion is done that is compared with the snapshot that the floor names, if it is with any
-abbrev pub is_due : Option Snapshot → History → Bool
-is_due None before = true
-is_due (Some s) before = names s before
+abbrev pub is_done_over : Option Snapshot → History → Bool
+is_done_over None before = true
+is_done_over (Some s) before = names s before
 
 abbrev pub is_done : Deletion → History → Bool
-is_done d before = is_due d.only_at before
+is_done d before = is_done_over d.only_at before
 
 -- whether it is of that snapshot's pieces too
 abbrev pub lets_go : Deletion → Snapshot → Bool
@@ -79,7 +79,7 @@ lets_go d s = not (ltb d.through s.generation) && not (same_snapshot d.but s)
 abbrev pub is_there : ℕ → Name → Part → History → Bool
 is_there g name part [] = false
 is_there g name part (Puts h other p text ∷ before) =
-    ((g == h) && (same name other && same_part part p)) || is_there g name part before
+    ((g == h) && (same name other && is_same_part part p)) || is_there g name part before
 is_there g name part (Deletes d ∷ before) = not (is_done d before && ltb g d.generation) && is_there g name part before
 is_there g name part (change ∷ before) = is_there g name part before
 
@@ -102,18 +102,18 @@ pieces_behind name (PiecePart n) at text pieces =
     pieces ++ record { entry = name; number = n; revision = at; text = text } ∷ []
 pieces_behind name Head at text pieces = filter (λ p. not (same p.entry name)) pieces
 
-abbrev pub pieces_of : History → List Piece
-pieces_of [] = []
-pieces_of (Puts g name part text ∷ before) =
+abbrev pub open_pieces : History → List Piece
+open_pieces [] = []
+open_pieces (Puts g name part text ∷ before) =
     cond (counts g name part before)
-    (pieces_behind name part (revision_of before + 1) text (pieces_of before)) (pieces_of before)
-pieces_of (Moves f ∷ before) = []
-pieces_of (change ∷ before) = pieces_of before
+    (pieces_behind name part (revision_of before + 1) text (open_pieces before)) (open_pieces before)
+open_pieces (Moves f ∷ before) = []
+open_pieces (change ∷ before) = open_pieces before
 
 -- the bytes of an entry's pieces, one after another
-abbrev pub whole : Name → List Piece → List ℕ
-whole name [] = []
-whole name (p ∷ pieces) = cond (same p.entry name) (p.text ++ whole name pieces) (whole name pieces)
+abbrev pub whole_text : Name → List Piece → List ℕ
+whole_text name [] = []
+whole_text name (p ∷ pieces) = cond (same p.entry name) (p.text ++ whole_text name pieces) (whole_text name pieces)
 
 -- whether the numbers of an entry's pieces are this one and those that follow it, in their order
 abbrev pub are_in_turn : ℕ → Name → List Piece → Bool
@@ -123,7 +123,7 @@ are_in_turn next name (p ∷ pieces) =
 
 -- the bytes of the entry that a head ends: none where not all pieces before it came in their turn
 abbrev pub joined : Name → List Piece → List ℕ → Option (List ℕ)
-joined name pieces head = cond (are_in_turn 0 name pieces) (Some (whole name pieces ++ head)) None
+joined name pieces head = cond (are_in_turn 0 name pieces) (Some (whole_text name pieces ++ head)) None
 
 -- the entry that a put ends, where it has its head and counts
 abbrev pub ended_by : Name → Part → List ℕ → List Piece → Option Entry
@@ -132,16 +132,16 @@ ended_by name Head text pieces = Some (record { name = name; text = joined name 
 
 abbrev pub counted_by : Change → History → Option Entry
 counted_by (Puts g name part text) before =
-    cond (counts g name part before) (ended_by name part text (pieces_of before)) None
+    cond (counts g name part before) (ended_by name part text (open_pieces before)) None
 counted_by change before = None
 
 abbrev pub same_entry : Entry → Entry → Bool
 same_entry a b = same a.name b.name
 
 -- the entries that count, the newest first
-abbrev pub entries : History → List Entry
-entries [] = []
-entries (change ∷ before) = option_to_list (counted_by change before) ++ entries before
+abbrev pub counted_entries : History → List Entry
+counted_entries [] = []
+counted_entries (change ∷ before) = option_to_list (counted_by change before) ++ counted_entries before
 
 -- ---- what is told
 

@@ -5,7 +5,7 @@ use Rattle.am_replica_log.specs.declared.event.Event.TheVariants.{Put, Moved}
 use Rattle.am_replica_log.specs.declared.pieces.Piece.{Piece}
 use Rattle.am_replica_log.specs.declared.pieces.Entry.{Entry}
 use Rattle.am_replica_log.specs.LogState.{LogState}
-use Rattle.am_replica_log.specs.History.{Change, Puts, History, generation, floor, counts, pieces_of, ended_by}
+use Rattle.am_replica_log.specs.History.{Change, Puts, History, generation, floor, counts, open_pieces, ended_by}
 
 -- what came after a revision
 abbrev pub behind : ℕ → List Piece → List Piece
@@ -15,12 +15,12 @@ behind from pieces = filter (λ p. ltb from p.revision) pieces
 pub record IsAt (from : ℕ) (log : LogState) (history : History) : Type 0 where
   pub floor : log.floor ≡ floor history
   pub generation : log.generation ≡ generation history
-  pub pieces : log.pieces ≡ behind from (pieces_of history)
+  pub pieces : log.pieces ≡ behind from (open_pieces history)
 
 -- the entry that counts, with those of its pieces that this reader was told of
 abbrev pub counted_for : ℕ → Change → History → Option Entry
 counted_for from (Puts g name part text) before =
-    cond (counts g name part before) (ended_by name part text (behind from (pieces_of before))) None
+    cond (counts g name part before) (ended_by name part text (behind from (open_pieces before))) None
 counted_for from change before = None
 
 -- a floor that is known already; one that doesn't follow the one that is known

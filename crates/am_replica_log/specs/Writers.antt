@@ -32,23 +32,24 @@ deletion_of s = record { only_at = Some s; generation = s.generation - 1; throug
 -- A part of an entry is put under a generation that has begun, where the entry counted under none before. The floor is
 -- moved where it is the one that was read, to a snapshot of the next generation that was written meanwhile. A snapshot
 -- is written and a deletion is sent at any time, and each may arrive late.
-abbrev pub MayDo : Change → History → Type 0
-MayDo (Puts g name part text) before = (g ≤ generation before) × ((h : ℕ) → h < g → has_counted h name before ≡ false)
-MayDo (Writes s) before = Unit {0}
-MayDo (Moves f) before = (f.since ≡ floor before) × (f.snapshot.generation ≡ generation before + 1)
+abbrev pub KeepsPremise : Change → History → Type 0
+KeepsPremise (Puts g name part text) before =
+    (g ≤ generation before) × ((h : ℕ) → h < g → has_counted h name before ≡ false)
+KeepsPremise (Writes s) before = Unit {0}
+KeepsPremise (Moves f) before = (f.since ≡ floor before) × (f.snapshot.generation ≡ generation before + 1)
     × (was_written f.snapshot before ≡ true)
-MayDo (Deletes d) before = (s : Snapshot) × (d ≡ deletion_of s)
-MayDo Others before = Unit {0}
+KeepsPremise (Deletes d) before = (s : Snapshot) × (d ≡ deletion_of s)
+KeepsPremise Others before = Unit {0}
 
-abbrev pub IsAllowed : History → Type 0
-IsAllowed [] = Unit {0}
-IsAllowed (change ∷ before) = MayDo change before × IsAllowed before
+abbrev pub AllKeepPremise : History → Type 0
+AllKeepPremise [] = Unit {0}
+AllKeepPremise (change ∷ before) = KeepsPremise change before × AllKeepPremise before
 
 -- the snapshot that the floor names
-abbrev pub named : History → Option Snapshot
-named [] = None
-named (Moves f ∷ before) = Some f.snapshot
-named (change ∷ before) = named before
+abbrev pub snapshot_named : History → Option Snapshot
+snapshot_named [] = None
+snapshot_named (Moves f ∷ before) = Some f.snapshot
+snapshot_named (change ∷ before) = snapshot_named before
 
 -- an entry counted under no generation
 abbrev pub NeverCounted : Name → History → Type 0

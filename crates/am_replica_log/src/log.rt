@@ -7,7 +7,7 @@ ghost use Rattle.am_replica_log.specs.declared.event.Part.{Part as ThePart};
 ghost use Rattle.am_replica_log.specs.declared.log.LogFault.TheVariants.{NoMemory as OutOfMemory};
 ghost use Rattle.am_replica_log.specs.History.{History, Change, Puts, revision_of, shown, first_behind};
 ghost use Rattle.am_replica_log.specs.Readers.{IsAt, counted_for, is_known, is_stray};
-ghost use Rattle.am_replica_log.specs.Writers.{IsAllowed, MayDo, NeverCounted};
+ghost use Rattle.am_replica_log.specs.Writers.{AllKeepPremise, KeepsPremise, NeverCounted};
 
 use crate::event::{Event, Floor};
 use crate::pieces::{Entry, Piece, first_behind, take_part};
@@ -122,8 +122,8 @@ impl Log {
     pub fn generation(&self) -> u64
         ensures now { result ≡ self.now.generation }
         ensures puts { (from : ℕ) (name : TheName) (part : ThePart) (text : List ℕ) (history later : History) →
-            IsAllowed (later ++ history) → IsAt from self.now history → NeverCounted name history →
-            MayDo (Puts result name part text) (later ++ history) }
+            AllKeepPremise (later ++ history) → IsAt from self.now history → NeverCounted name history →
+            KeepsPremise (Puts result name part text) (later ++ history) }
     {
         self.generation
     }

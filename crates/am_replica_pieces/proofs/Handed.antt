@@ -15,14 +15,14 @@ use Rattle.am_replica_log.specs.declared.event.Part.TheVariants.{Piece as PieceP
 use Rattle.am_replica_log.specs.declared.pieces.Piece.{Piece}
 use Rattle.am_replica_log.specs.declared.pieces.Entry.{Entry}
 use Rattle.am_replica_log.specs.declared.deletion.Deletion.{Deletion}
-use Rattle.am_replica_log.specs.History.{Puts, Writes, Moves, Deletes, Others, History, same, same_part, generation}
+use Rattle.am_replica_log.specs.History.{Puts, Writes, Moves, Deletes, Others, History, same, is_same_part, generation}
 use Rattle.am_replica_log.specs.History.{revision_of}
-use Rattle.am_replica_log.specs.History.{is_done, is_there, counts, pieces_behind, pieces_of, whole, are_in_turn}
+use Rattle.am_replica_log.specs.History.{is_done, is_there, counts, pieces_behind, open_pieces, whole_text, are_in_turn}
 use Rattle.am_replica_log.specs.History.{joined}
-use Rattle.am_replica_log.specs.History.{entries}
+use Rattle.am_replica_log.specs.History.{counted_entries}
 use Rattle.am_replica_log.specs.History.{Change, floor, ended_by}
 use Rattle.am_replica_log.specs.Readers.{behind, counted_for}
-use Rattle.am_replica_log.specs.Writers.{IsAllowed}
+use Rattle.am_replica_log.specs.Writers.{AllKeepPremise}
 use Rattle.am_replica_log.proofs.Floors.{pieces_came}
 use Rattle.am_replica_log.proofs.Filters.{each_weaker, filter_drops, filter_keeps, filters_turn}
 use Rattle.am_replica_log.proofs.Once.{spared}
@@ -57,9 +57,9 @@ there_put : (g : ℕ) (name : Name) (part : Part) (b : History) → is_there g n
     was_put g name part b ≡ true
 there_put g name part [] h = absurd (false≢true h)
 there_put g name part (Puts k other p bytes ∷ b) h =
-    elim (or_cases ((g == k) && (same name other && same_part part p)) (is_there g name part b) h) [
-      | inl e ↦ or_left ((g == k) && (same name other && same_part part p)) (was_put g name part b) e
-      | inr e ↦ or_right ((g == k) && (same name other && same_part part p)) (was_put g name part b)
+    elim (or_cases ((g == k) && (same name other && is_same_part part p)) (is_there g name part b) h) [
+      | inl e ↦ or_left ((g == k) && (same name other && is_same_part part p)) (was_put g name part b) e
+      | inr e ↦ or_right ((g == k) && (same name other && is_same_part part p)) (was_put g name part b)
           (there_put g name part b e)
     ]
 there_put g name part (Deletes d ∷ b) h =
@@ -72,13 +72,13 @@ not_put_not_there g name part b h = false_from_ne_true (is_there g name part b)
     (λ t. both_ways (was_put g name part b) h (there_put g name part b t))
 
 -- under a generation that has begun
-put_began : (g : ℕ) (name : Name) (part : Part) (b : History) → IsAllowed b → was_put g name part b ≡ true →
+put_began : (g : ℕ) (name : Name) (part : Part) (b : History) → AllKeepPremise b → was_put g name part b ≡ true →
     g ≤ generation b
 put_began g name part [] ok h = absurd (false≢true h)
 put_began g name part (Puts k other p bytes ∷ b) ok h =
-    elim (or_cases ((g == k) && (same name other && same_part part p)) (was_put g name part b) h) [
+    elim (or_cases ((g == k) && (same name other && is_same_part part p)) (was_put g name part b) h) [
       | inl e ↦
-          let gk : g ≡ k = eqb-true g k (and_parts (g == k) (same name other && same_part part p) e).0 in
+          let gk : g ≡ k = eqb-true g k (and_parts (g == k) (same name other && is_same_part part p) e).0 in
           let began : k ≤ generation b = ok.0.0 in
           omega arith
       | inr e ↦ put_began g name part b ok.1 e
@@ -90,7 +90,7 @@ put_began g name part (Moves f ∷ b) ok h =
 put_began g name part (change ∷ b) ok h = put_began g name part b ok.1 h
 
 -- a deletion leaves what is there under the present generation
-left_by : (name : Name) (part : Part) (d : Deletion) (b : History) → IsAllowed (Deletes d ∷ b)
+left_by : (name : Name) (part : Part) (d : Deletion) (b : History) → AllKeepPremise (Deletes d ∷ b)
     → is_there (generation b) name part (Deletes d ∷ b) ≡ is_there (generation b) name part b
 left_by name part d b ok = ap (λ t. not t && is_there (generation b) name part b) (spared d b ok.0)
 
@@ -108,12 +108,13 @@ module _ (name : Name) where
   rise_from n [] = true
   rise_from n (p ∷ pieces) = (p.number == n) && rise_from (n + 1) pieces
 
-  whole_by : (b : Bool) (p : Piece) (pieces : List Piece) → whole name pieces ≡ bytes_of (own pieces)
-      → cond b (p.text ++ whole name pieces) (whole name pieces) ≡ bytes_of (cond b (p ∷ own pieces) (own pieces))
+  whole_by : (b : Bool) (p : Piece) (pieces : List Piece) → whole_text name pieces ≡ bytes_of (own pieces)
+      → cond b (p.text ++ whole_text name pieces) (whole_text name pieces) ≡ bytes_of
+      (cond b (p ∷ own pieces) (own pieces))
   whole_by true p pieces rest = ap (λ xs. p.text ++ xs) rest
   whole_by false p pieces rest = rest
 
-  whole_is : (pieces : List Piece) → whole name pieces ≡ bytes_of (own pieces)
+  whole_is : (pieces : List Piece) → whole_text name pieces ≡ bytes_of (own pieces)
   whole_is [] = refl
   whole_is (p ∷ pieces) = whole_by (same p.entry name) p pieces (whole_is pieces)
 
@@ -188,7 +189,7 @@ module _ (name : Name) where
 -- ---- where an entry stands
 
 part_differs : (g h : ℕ) (n o : Name) (m i : ℕ) → (m ≡ i → ⊥) →
-    ((g == h) && (same n o && same_part (PiecePart m) (PiecePart i))) ≡ false
+    ((g == h) && (same n o && is_same_part (PiecePart m) (PiecePart i))) ≡ false
 part_differs g h n o m i apart = false_from_ne_true _ (λ e.
     let p = and_parts (g == h) (same n o && (m == i)) e in
     apart (eqb-true m i (and_parts (same n o) (m == i) p.1).1))
@@ -229,11 +230,11 @@ module _ (most : ℕ) (text : List ℕ) (name : Name) where
     few : count ≤ last
     there : (m : ℕ) → m < count → is_there g name (PiecePart m) b ≡ true
     none : (m : ℕ) → count ≤ m → was_put g name (PiecePart m) b ≡ false
-    state : ((is_there g name Head b ≡ true) × (count ≡ last) × (own name (pieces_of b) ≡ []))
-        ⊎ ((is_there g name Head b ≡ false) × HasFirst count (own name (pieces_of b)))
+    state : ((is_there g name Head b ≡ true) × (count ≡ last) × (own name (open_pieces b) ≡ []))
+        ⊎ ((is_there g name Head b ≡ false) × HasFirst count (own name (open_pieces b)))
 
   -- one whose generation begins
-  begun : (g : ℕ) (b : History) → ((part : Part) → was_put g name part b ≡ false) → own name (pieces_of b) ≡ [] →
+  begun : (g : ℕ) (b : History) → ((part : Part) → was_put g name part b ≡ false) → own name (open_pieces b) ≡ [] →
       Stands g b
   begun g b never empty = record {
     count = 0;
@@ -253,7 +254,7 @@ module _ (most : ℕ) (text : List ℕ) (name : Name) where
   -- nothing of it changed
   unchanged : (g : ℕ) (b c : History) → ((part : Part) → is_there g name part c ≡ is_there g name part b)
       → ((part : Part) → was_put g name part c ≡ was_put g name part b)
-      → own name (pieces_of c) ≡ own name (pieces_of b) → Stands g b → Stands g c
+      → own name (open_pieces c) ≡ own name (open_pieces b) → Stands g b → Stands g c
   unchanged g b c there put pieces s = record {
     count = s.count;
     few = s.few;
@@ -316,9 +317,9 @@ module _ (most : ℕ) (text : List ℕ) (name : Name) where
       Next (PiecePart n) bytes b
   again n bytes b s under =
       let g = generation b in
-      let hit = λ (part : Part). (g == g) && (same name name && same_part part (PiecePart n)) in
+      let hit = λ (part : Part). (g == g) && (same name name && is_same_part part (PiecePart n)) in
       let kept = kept_by (counts g name (PiecePart n) b)
-      (pieces_behind name (PiecePart n) (revision_of b + 1) bytes (pieces_of b)) (pieces_of b)
+      (pieces_behind name (PiecePart n) (revision_of b + 1) bytes (open_pieces b)) (open_pieces b)
       (uncounted g (PiecePart n) b (s.there n under)) in
       let head = passed (hit Head) (is_there g name Head b) (other_kind g g name name) in
       record {
@@ -340,13 +341,13 @@ module _ (most : ℕ) (text : List ℕ) (name : Name) where
       let g = generation b in
       let k = s.count in
       let at = revision_of b + 1 in
-      let hit = λ (part : Part). (g == g) && (same name name && same_part part (PiecePart k)) in
+      let hit = λ (part : Part). (g == g) && (same name name && is_same_part part (PiecePart k)) in
       let gone = not_put_not_there g name (PiecePart k) b (s.none k (omega arith)) in
       let head = passed (hit Head) (is_there g name Head b) (other_kind g g name name) in
-      let more = λ (has : HasFirst k (own name (pieces_of b))).
+      let more = λ (has : HasFirst k (own name (open_pieces b))).
       subst (λ (xs : List ℕ). HasFirst (suc k)
-      (own name (pieces_of b ++ record { entry = name; number = k; revision = at; text = xs } ∷ [])))
-      (sym is) (one_more k at (pieces_of b) has) in
+      (own name (open_pieces b ++ record { entry = name; number = k; revision = at; text = xs } ∷ [])))
+      (sym is) (one_more k at (open_pieces b) has) in
       record {
         count = suc k;
         few = omega arith;
@@ -363,7 +364,7 @@ module _ (most : ℕ) (text : List ℕ) (name : Name) where
           | inr e ↦ inr (
             head ∙ e.0,
             subst (λ c. HasFirst (suc k) (own name (cond c
-                (pieces_behind name (PiecePart k) at bytes (pieces_of b)) (pieces_of b))))
+                (pieces_behind name (PiecePart k) at bytes (open_pieces b)) (open_pieces b))))
                 (sym (counted g (PiecePart k) b gone)) (more e.1),
           )
         ];
@@ -405,9 +406,9 @@ module _ (most : ℕ) (text : List ℕ) (name : Name) where
   head_put : (bytes : List ℕ) (b : History) (s : Stands (generation b) b) → Part_of Head bytes b → Next Head bytes b
   head_put bytes b s is =
       let g = generation b in
-      let hit = λ (part : Part). (g == g) && (same name name && same_part part Head) in
+      let hit = λ (part : Part). (g == g) && (same name name && is_same_part part Head) in
       let full = (all_came g bytes b s is).0 in
-      let new = pieces_behind name Head (revision_of b + 1) bytes (pieces_of b) in
+      let new = pieces_behind name Head (revision_of b + 1) bytes (open_pieces b) in
       record {
         count = s.count;
         few = s.few;
@@ -418,13 +419,13 @@ module _ (most : ℕ) (text : List ℕ) (name : Name) where
           | inl e ↦ (
             or_right (hit Head) (is_there g name Head b) e.0,
             full,
-            kept_by (counts g name Head b) new (pieces_of b) (uncounted g Head b e.0) ∙ e.2,
+            kept_by (counts g name Head b) new (open_pieces b) (uncounted g Head b e.0) ∙ e.2,
           )
           | inr e ↦ (
             or_left (hit Head) (is_there g name Head b) (and_from (g == g) (same name name && true)
                 (eq-eqb g g refl) (and_from (same name name) true (same_self name) refl)),
             full,
-            ap (λ c. own name (cond c new (pieces_of b))) (counted g Head b e.0) ∙ own_gone name (pieces_of b),
+            ap (λ c. own name (cond c new (open_pieces b))) (counted g Head b e.0) ∙ own_gone name (open_pieces b),
           )
         ]);
       }
@@ -448,12 +449,12 @@ module _ (most : ℕ) (text : List ℕ) (name : Name) where
             let over : (h == g) ≡ false = false_from_ne_true (h == g)
             (λ e. both_ways (g == h) past (eq-eqb g h (sym (eqb-true h g e)))) in
             unchanged g b (Puts h name part bytes ∷ b)
-            (λ p. passed ((g == h) && (same name name && same_part p part)) (is_there g name p b)
-            (other_generation g h name name (same_part p part) past))
-            (λ p. passed ((g == h) && (same name name && same_part p part)) (was_put g name p b)
-            (other_generation g h name name (same_part p part) past))
-            (kept_by (counts h name part b) (pieces_behind name part (revision_of b + 1) bytes (pieces_of b))
-            (pieces_of b) (ap (λ t. t && not (is_there h name part b)) over))
+            (λ p. passed ((g == h) && (same name name && is_same_part p part)) (is_there g name p b)
+            (other_generation g h name name (is_same_part p part) past))
+            (λ p. passed ((g == h) && (same name name && is_same_part p part)) (was_put g name p b)
+            (other_generation g h name name (is_same_part p part) past))
+            (kept_by (counts h name part b) (pieces_behind name part (revision_of b + 1) bytes (open_pieces b))
+            (open_pieces b) (ap (λ t. t && not (is_there h name part b)) over))
             s
       ]
 
@@ -479,25 +480,25 @@ module _ (most : ℕ) (text : List ℕ) (name : Name) where
   other_put h other part bytes b s apart =
       let g = generation b in
       unchanged g b (Puts h other part bytes ∷ b)
-      (λ p. passed ((g == h) && (same name other && same_part p part)) (is_there g name p b)
-      (other_entry g h name other (same_part p part) apart))
-      (λ p. passed ((g == h) && (same name other && same_part p part)) (was_put g name p b)
-      (other_entry g h name other (same_part p part) apart))
-      (either_way (counts h other part b) (pieces_behind other part (revision_of b + 1) bytes (pieces_of b))
-      (pieces_of b) (past other part (revision_of b + 1) bytes (pieces_of b) apart))
+      (λ p. passed ((g == h) && (same name other && is_same_part p part)) (is_there g name p b)
+      (other_entry g h name other (is_same_part p part) apart))
+      (λ p. passed ((g == h) && (same name other && is_same_part p part)) (was_put g name p b)
+      (other_entry g h name other (is_same_part p part) apart))
+      (either_way (counts h other part b) (pieces_behind other part (revision_of b + 1) bytes (open_pieces b))
+      (open_pieces b) (past other part (revision_of b + 1) bytes (open_pieces b) apart))
       s
 
   -- what a head that counts joins
   joins : (g : ℕ) (bytes : List ℕ) (b : History) → 0 < most → (s : Stands g b) → IsPart most text g name Head bytes b
-      → is_there g name Head b ≡ false → joined name (pieces_of b) bytes ≡ Some text
+      → is_there g name Head b ≡ false → joined name (open_pieces b) bytes ≡ Some text
   joins g bytes b some s is gone =
-      let pieces = pieces_of b in
+      let pieces = open_pieces b in
       let all = all_came g bytes b s is in
       elim s.state [
         | inl e ↦ absurd (both_ways (is_there g name Head b) gone e.0)
         | inr e ↦
             let next : suc last ≡ last + 1 = omega arith in
-            ap (λ t. cond t (Some (whole name pieces ++ bytes)) None) (turn_is name pieces 0 ∙ e.1.rise)
+            ap (λ t. cond t (Some (whole_text name pieces ++ bytes)) None) (turn_is name pieces 0 ∙ e.1.rise)
             ∙ ap Some (ap (λ xs. xs ++ bytes) (whole_is name pieces ∙ e.1.bytes ∙ ap (first_parts most text) all.0)
             ∙ ap (λ xs. first_parts most text last ++ xs) (is.bytes_are ∙ ap (bytes_at most text) all.1)
             ∙ ap (first_parts most text) next
@@ -520,7 +521,7 @@ module _ (most : ℕ) (texts : Name → List ℕ) where
         | inr apart ↦ other_put most (texts name) name h other part bytes b s apart
       ]
 
-  stands : (name : Name) (b : History) → IsAllowed b → AreParts most texts b →
+  stands : (name : Name) (b : History) → AllKeepPremise b → AreParts most texts b →
       Stands most (texts name) name (generation b) b
   stands name [] ok are = begun most (texts name) name 0 [] (λ part. refl) refl
   stands name (Puts h other part bytes ∷ b) ok are =
@@ -553,9 +554,9 @@ module _ (most : ℕ) (texts : Name → List ℕ) where
   with_none true rest all = all
   with_none false rest all = all
 
-  is_handed : (h : ℕ) (name : Name) (bytes : List ℕ) (b : History) → 0 < most → IsAllowed b → AreParts most texts b
+  is_handed : (h : ℕ) (name : Name) (bytes : List ℕ) (b : History) → 0 < most → AllKeepPremise b → AreParts most texts b
       → IsPart most (texts name) h name Head bytes b → counts h name Head b ≡ true
-      → joined name (pieces_of b) bytes ≡ Some (texts name)
+      → joined name (open_pieces b) bytes ≡ Some (texts name)
   is_handed h name bytes b some ok are is counted =
       let parts = and_parts (h == generation b) (not (is_there h name Head b)) counted in
       let here : h ≡ generation b = eqb-true h (generation b) parts.0 in
@@ -563,14 +564,16 @@ module _ (most : ℕ) (texts : Name → List ℕ) where
       (subst (λ (g : ℕ). Stands most (texts name) name g b) (sym here) (stands name b ok are)) is
       (not-true (is_there h name Head b) parts.1)
 
-  pub all_handed : (b : History) → 0 < most → IsAllowed b → AreParts most texts b → AllByRecursion IsHanded (entries b)
+  pub all_handed : (b : History) → 0 < most → AllKeepPremise b → AreParts most texts b →
+      AllByRecursion IsHanded (counted_entries b)
   all_handed [] some ok are = tt
   all_handed (Puts h name Head bytes ∷ b) some ok are =
-      with_entry (counts h name Head b) (record { name = name; text = joined name (pieces_of b) bytes }) (entries b)
+      with_entry (counts h name Head b) (record { name = name; text = joined name (open_pieces b) bytes })
+      (counted_entries b)
       (λ counted. is_handed h name bytes b some ok.1 are.1 are.0 counted)
       (all_handed b some ok.1 are.1)
   all_handed (Puts h name (PiecePart n) bytes ∷ b) some ok are =
-      with_none (counts h name (PiecePart n) b) (entries b) (all_handed b some ok.1 are.1)
+      with_none (counts h name (PiecePart n) b) (counted_entries b) (all_handed b some ok.1 are.1)
   all_handed (Writes s ∷ b) some ok are = all_handed b some ok.1 are
   all_handed (Moves f ∷ b) some ok are = all_handed b some ok.1 are
   all_handed (Deletes d ∷ b) some ok are = all_handed b some ok.1 are
@@ -578,10 +581,10 @@ module _ (most : ℕ) (texts : Name → List ℕ) where
 
   -- of a reader that knows all
 
-  keeps_all : (b : History) → behind 0 (pieces_of b) ≡ pieces_of b
-  keeps_all b = filter_keeps (λ p. ltb 0 p.revision) (pieces_of b)
+  keeps_all : (b : History) → behind 0 (open_pieces b) ≡ open_pieces b
+  keeps_all b = filter_keeps (λ p. ltb 0 p.revision) (open_pieces b)
       (each_weaker (λ p. (floor b < p.revision) × (p.revision ≤ revision_of b)) (λ p. ltb 0 p.revision ≡ true)
-      (λ p came. let low : floor b < p.revision = came.0 in lt-ltb 0 p.revision (omega arith)) (pieces_of b)
+      (λ p came. let low : floor b < p.revision = came.0 in lt-ltb 0 p.revision (omega arith)) (open_pieces b)
       (pieces_came b))
 
   told_by : (c : Bool) (e : Entry) → (c ≡ true → IsHanded e) → IfSome (cond c (Some e) None) IsHanded
@@ -595,12 +598,12 @@ module _ (most : ℕ) (texts : Name → List ℕ) where
   told_none true = tt
   told_none false = tt
 
-  pub all_told : (change : Change) (b : History) → 0 < most → IsAllowed b → AreParts most texts (change ∷ b)
+  pub all_told : (change : Change) (b : History) → 0 < most → AllKeepPremise b → AreParts most texts (change ∷ b)
       → IfSome (counted_for 0 change b) IsHanded
   all_told (Puts h name Head bytes) b some ok are =
       subst (λ pieces. IfSome (cond (counts h name Head b) (ended_by name Head bytes pieces) None) IsHanded)
       (sym (keeps_all b))
-      (told_by (counts h name Head b) (record { name = name; text = joined name (pieces_of b) bytes })
+      (told_by (counts h name Head b) (record { name = name; text = joined name (open_pieces b) bytes })
       (λ counted. is_handed h name bytes b some ok are.1 are.0 counted))
   all_told (Puts h name (PiecePart n) bytes) b some ok are = told_none (counts h name (PiecePart n) b)
   all_told (Writes s) b some ok are = tt

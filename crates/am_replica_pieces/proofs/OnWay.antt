@@ -11,11 +11,11 @@ use Rattle.am_replica_log.specs.declared.pieces.Entry.{Entry}
 use Rattle.am_replica_log.specs.LogState.{LogState}
 use Rattle.am_replica_log.specs.History.{Change, Puts, Writes, Moves, Deletes, Others, History, same, generation}
 use Rattle.am_replica_log.specs.History.{counts}
-use Rattle.am_replica_log.specs.History.{pieces_of}
-use Rattle.am_replica_log.specs.History.{same_part, shown}
+use Rattle.am_replica_log.specs.History.{open_pieces}
+use Rattle.am_replica_log.specs.History.{is_same_part, shown}
 use Rattle.am_replica_log.specs.History.{joined}
 use Rattle.am_replica_log.specs.Readers.{behind, IsAt, counted_for}
-use Rattle.am_replica_log.specs.Writers.{has_counted, IsAllowed, MayDo, NeverCounted}
+use Rattle.am_replica_log.specs.Writers.{has_counted, AllKeepPremise, KeepsPremise, NeverCounted}
 use Rattle.am_replica_log.proofs.Once.{generations_rise, never_later}
 use Rattle.am_replica_pieces.specs.Cut.{part_at, bytes_at}
 use Rattle.am_replica_pieces.specs.Turns.{was_put, IsPart, AreParts}
@@ -25,8 +25,8 @@ use Rattle.am_replica_pieces.specs.Writing.{tells, IsOnWay, IsByWriter, AreByWri
 -- ---- a part that is put now
 
 pub may_put : (most : ℕ) (text : List ℕ) (w : WriterState) (since read : History) (part : Part) (bytes : List ℕ)
-    → IsAllowed (since ++ read) → IsOnWay most text w since read → w.is_seen ≡ false
-    → MayDo (Puts w.generation w.name part bytes) (since ++ read)
+    → AllKeepPremise (since ++ read) → IsOnWay most text w since read → w.is_seen ≡ false
+    → KeepsPremise (Puts w.generation w.name part bytes) (since ++ read)
 may_put most text w since read part bytes ok is unseen =
     let began : w.generation ≤ generation read = is.began in
     let rise : generation read ≤ generation (since ++ read) = generations_rise since read ok in
@@ -58,7 +58,7 @@ still_uncounted : (from : ℕ) (change : Change) (read : History) (name : Name)
     → tells (counted_for from change read) name ≡ false → NeverCounted name read → NeverCounted name (change ∷ read)
 still_uncounted from (Puts h other Head bytes) read name untold never g =
     counted_by_test (counts h other Head read)
-    (record { name = other; text = joined other (behind from (pieces_of read)) bytes }) name g h
+    (record { name = other; text = joined other (behind from (open_pieces read)) bytes }) name g h
     (has_counted g name read) untold (never g)
 still_uncounted from (Puts h other (PiecePart n) bytes) read name untold never g = never g
 still_uncounted from (Writes s) read name untold never g = never g
@@ -67,7 +67,7 @@ still_uncounted from (Deletes d) read name untold never g = never g
 still_uncounted from Others read name untold never g = never g
 
 module _ (most : ℕ) (text : List ℕ) (from : ℕ) (change : Change) (since read : History) (w : WriterState)
-    (log : LogState) (told : Option Entry) (ok : IsAllowed (change ∷ read)) (at : IsAt from log (change ∷ read))
+    (log : LogState) (told : Option Entry) (ok : AllKeepPremise (change ∷ read)) (at : IsAt from log (change ∷ read))
     (told_is : told ≡ counted_for from change read) (is : IsOnWay most text w (since ++ change ∷ []) read) where
   unseen_still : (w.is_seen || tells told w.name) ≡ false → NeverCounted w.name (change ∷ read)
   unseen_still unseen =
@@ -107,7 +107,7 @@ was_put_later : (g : ℕ) (name : Name) (part : Part) (more b : History) → was
     was_put g name part (more ++ b) ≡ true
 was_put_later g name part [] b put = put
 was_put_later g name part (Puts h other p bytes ∷ more) b put =
-    or_right ((g == h) && (same name other && same_part part p)) (was_put g name part (more ++ b))
+    or_right ((g == h) && (same name other && is_same_part part p)) (was_put g name part (more ++ b))
     (was_put_later g name part more b put)
 was_put_later g name part (Writes s ∷ more) b put = was_put_later g name part more b put
 was_put_later g name part (Moves f ∷ more) b put = was_put_later g name part more b put
@@ -150,24 +150,25 @@ module _ (most : ℕ) (text : List ℕ) (w : WriterState) where
 -- ---- whole histories
 
 by_writer : (most : ℕ) (text : List ℕ) (g : ℕ) (name : Name) (part : Part) (bytes : List ℕ) (before : History)
-    → IsByWriter most text g name part bytes before → IsAllowed before
-    → MayDo (Puts g name part bytes) before × IsPart most text g name part bytes before
+    → IsByWriter most text g name part bytes before → AllKeepPremise before
+    → KeepsPremise (Puts g name part bytes) before × IsPart most text g name part bytes before
 by_writer most text g name part bytes before is ok =
     let w = is.writer in
-    let here : IsAllowed (is.since ++ is.read) = subst IsAllowed (sym is.before_is) ok in
-    let both : MayDo (Puts w.generation w.name part bytes) (is.since ++ is.read)
+    let here : AllKeepPremise (is.since ++ is.read) = subst AllKeepPremise (sym is.before_is) ok in
+    let both : KeepsPremise (Puts w.generation w.name part bytes) (is.since ++ is.read)
     × IsPart most text w.generation w.name part bytes (is.since ++ is.read) = (
       may_put most text w is.since is.read part bytes here is.on_way is.unseen,
       is_part most text w is.since is.read part bytes is.on_way is.part_is is.bytes_are,
     ) in
-    let named = subst (λ (n : Name). MayDo (Puts w.generation n part bytes) (is.since ++ is.read)
+    let named = subst (λ (n : Name). KeepsPremise (Puts w.generation n part bytes) (is.since ++ is.read)
     × IsPart most text w.generation n part bytes (is.since ++ is.read)) is.name_is both in
-    let placed = subst (λ (h : ℕ). MayDo (Puts h name part bytes) (is.since ++ is.read)
+    let placed = subst (λ (h : ℕ). KeepsPremise (Puts h name part bytes) (is.since ++ is.read)
     × IsPart most text h name part bytes (is.since ++ is.read)) is.generation_is named in
-    subst (λ (h : History). MayDo (Puts g name part bytes) h × IsPart most text g name part bytes h) is.before_is placed
+    subst (λ (h : History). KeepsPremise (Puts g name part bytes) h × IsPart most text g name part bytes h) is.before_is
+    placed
 
 pub keep_to : (most : ℕ) (texts : Name → List ℕ) (history : History) → AreByWriters most texts history
-    → IsAllowed history × AreParts most texts history
+    → AllKeepPremise history × AreParts most texts history
 keep_to most texts [] are = (tt, tt)
 keep_to most texts (Puts g name part bytes ∷ before) are =
     let rest = keep_to most texts before are.1 in

@@ -4,14 +4,14 @@ use Rattle.am_replica_log.specs.declared.event.Name.{Name}
 use Rattle.am_replica_log.specs.declared.event.Part.{Part}
 use Rattle.am_replica_log.specs.declared.event.Part.TheVariants.{Piece as PiecePart}
 use Rattle.am_replica_log.specs.declared.pieces.Piece.{Piece}
-use Rattle.am_replica_log.specs.History.{Puts, History, same, same_part}
+use Rattle.am_replica_log.specs.History.{Puts, History, same, is_same_part}
 use Rattle.am_replica_pieces.specs.Cut.{before_head, part_at, bytes_at}
 
 -- whether the part was put under the generation
 abbrev pub was_put : ℕ → Name → Part → History → Bool
 was_put g name part [] = false
 was_put g name part (Puts h other p bytes ∷ before) =
-    ((g == h) && (same name other && same_part part p)) || was_put g name part before
+    ((g == h) && (same name other && is_same_part part p)) || was_put g name part before
 was_put g name part (change ∷ before) = was_put g name part before
 
 -- A part of the text is put once all pieces before it were put under its generation.

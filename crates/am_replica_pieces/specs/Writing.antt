@@ -6,7 +6,7 @@ use Rattle.am_replica_log.specs.declared.event.Part.{Part}
 use Rattle.am_replica_log.specs.declared.event.Part.TheVariants.{Piece}
 use Rattle.am_replica_log.specs.declared.pieces.Entry.{Entry}
 use Rattle.am_replica_log.specs.History.{Puts, History, same, generation}
-use Rattle.am_replica_log.specs.Writers.{MayDo, NeverCounted}
+use Rattle.am_replica_log.specs.Writers.{KeepsPremise, NeverCounted}
 use Rattle.am_replica_pieces.specs.Cut.{before_head, part_at, bytes_at}
 use Rattle.am_replica_pieces.specs.Turns.{was_put}
 use Rattle.am_replica_pieces.specs.WriterState.{WriterState}
@@ -56,4 +56,4 @@ abbrev pub AreByWriters : ℕ → (Name → List ℕ) → History → Type 0
 AreByWriters most texts [] = Unit {0}
 AreByWriters most texts (Puts g name part bytes ∷ before) =
     IsByWriter most (texts name) g name part bytes before × AreByWriters most texts before
-AreByWriters most texts (change ∷ before) = MayDo change before × AreByWriters most texts before
+AreByWriters most texts (change ∷ before) = KeepsPremise change before × AreByWriters most texts before

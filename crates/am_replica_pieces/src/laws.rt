@@ -6,9 +6,9 @@ ghost use Rattle.std.specs.List.{AllByRecursion};
 ghost use Rattle.am_replica_log.specs.declared.event.Name.{Name};
 ghost use Rattle.am_replica_log.specs.declared.event.Part.TheVariants.{Head};
 ghost use Rattle.am_replica_log.specs.declared.pieces.Piece.{Piece};
-ghost use Rattle.am_replica_log.specs.History.{Change, History, same, pieces_behind, entries, shown};
+ghost use Rattle.am_replica_log.specs.History.{Change, History, same, pieces_behind, counted_entries, shown};
 ghost use Rattle.am_replica_log.specs.Readers.{counted_for};
-ghost use Rattle.am_replica_log.specs.Writers.{IsAllowed};
+ghost use Rattle.am_replica_log.specs.Writers.{AllKeepPremise};
 ghost use Rattle.am_replica_pieces.specs.Cut.{before_head, bytes_at, first_parts};
 ghost use Rattle.am_replica_pieces.specs.Turns.{AreParts, pieces_under};
 ghost use Rattle.am_replica_pieces.specs.WriterState.{WriterState};
@@ -23,10 +23,10 @@ pub fn parts_are_the_text()
 /// Each entry that counts has just the text that its writer handed over, whatever late puts, deletions and floors the
 /// cluster takes; and so has each that a reader is told of who knows the log from its beginning, or from a snapshot on.
 pub fn entries_are_handed_over()
-    ensures entries { (most : ℕ) (texts : Name → List ℕ) (history : History) → 0 < most → IsAllowed history →
-        AreParts most texts history → AllByRecursion (λ e. e.text ≡ Some (texts e.name)) (entries history) }
+    ensures entries { (most : ℕ) (texts : Name → List ℕ) (history : History) → 0 < most → AllKeepPremise history →
+        AreParts most texts history → AllByRecursion (λ e. e.text ≡ Some (texts e.name)) (counted_entries history) }
     ensures told { (most : ℕ) (texts : Name → List ℕ) (change : Change) (history : History) → 0 < most →
-        IsAllowed history → AreParts most texts (change ∷ history) →
+        AllKeepPremise history → AreParts most texts (change ∷ history) →
         IfSome (counted_for 0 change history) (λ e. e.text ≡ Some (texts e.name)) }
 {}
 
@@ -52,5 +52,5 @@ pub fn writers_stay_on_way()
 /// laws of the log speak.
 pub fn writers_keep_to_the_premise()
     ensures { (most : ℕ) (texts : Name → List ℕ) (history : History) → AreByWriters most texts history →
-        IsAllowed history × AreParts most texts history }
+        AllKeepPremise history × AreParts most texts history }
 {}

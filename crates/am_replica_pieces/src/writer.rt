@@ -3,7 +3,7 @@
 ghost use Rattle.std.specs.Prelude.{◌≡◌, ◌≤◌, ◌<◌, ◌++◌, ◌∷◌, [], ◌||◌, ℕ, List, true, false};
 ghost use Rattle.am_replica_log.specs.History.{Change, Puts, History};
 ghost use Rattle.am_replica_log.specs.Readers.{IsAt, counted_for};
-ghost use Rattle.am_replica_log.specs.Writers.{IsAllowed, MayDo, NeverCounted};
+ghost use Rattle.am_replica_log.specs.Writers.{AllKeepPremise, KeepsPremise, NeverCounted};
 ghost use Rattle.am_replica_pieces.specs.Cut.{before_head, part_at, bytes_at};
 ghost use Rattle.am_replica_pieces.specs.Turns.{was_put, IsPart};
 ghost use Rattle.am_replica_pieces.specs.Writing.{tells, state_answered, state_heard, IsOnWay};
@@ -65,9 +65,9 @@ impl Writer {
         requires here { self.now.next ≤ before_head most text.now }
         ensures part { result.0 ≡ part_at most text.now self.now.next }
         ensures bytes { result.1.now ≡ bytes_at most text.now self.now.next }
-        ensures may { (since read : History) → IsAllowed (since ++ read) →
+        ensures may { (since read : History) → AllKeepPremise (since ++ read) →
             IsOnWay most text.now self.now since read → self.now.is_seen ≡ false →
-            MayDo (Puts self.now.generation self.now.name result.0 result.1.now) (since ++ read) }
+            KeepsPremise (Puts self.now.generation self.now.name result.0 result.1.now) (since ++ read) }
         ensures in_turn { (since read : History) → IsOnWay most text.now self.now since read →
             IsPart most text.now self.now.generation self.now.name result.0 result.1.now (since ++ read) }
     {
@@ -93,7 +93,8 @@ impl Writer {
     pub fn hear(&mut self, log: &Log, told: &Option<Entry>)
         ensures here { self.new ≡ state_heard log.now.generation told.now self.old }
         ensures on_way { (most : ℕ) (text : List ℕ) (from : ℕ) (change : Change) (since read : History) →
-            IsAllowed (change ∷ read) → IsAt from log.now (change ∷ read) → told.now ≡ counted_for from change read →
+            AllKeepPremise (change ∷ read) → IsAt from log.now (change ∷ read) →
+            told.now ≡ counted_for from change read →
             IsOnWay most text self.old (since ++ change ∷ []) read → IsOnWay most text self.new since (change ∷ read) }
     {
         self.is_seen = is_told(self.is_seen, told, self.name);

@@ -3,12 +3,13 @@ use Rattle.std.specs.Prelude.{◌≡◌, ℕ, List, [], true, filter, Option, So
 use Rattle.std.specs.List.{AllByRecursion}
 use Rattle.std.specs.FinMap.{entries}
 use Rattle.am_record.specs.OrderedKey.{OrderedKey}
+use Rattle.am_record.specs.Limits.{max_rows}
 use Rattle.am_record.specs.Interval.{key_le, key_greatest}
 use Rattle.am_record.specs.Plain.{PlainMap, Records, rows_where}
 
 -- the most records of a page
 abbrev pub page_len : ℕ
-page_len = 1000
+page_len = max_rows
 
 -- the records of the map by rising key, but for keys above the longest key of the highest bytes, which no key is
 abbrev pub all_rows : PlainMap → Records

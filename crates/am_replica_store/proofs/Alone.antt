@@ -35,7 +35,7 @@ use Rattle.am_line_dialogue.specs.Say.{refusal_due}
 use Rattle.am_line_dialogue.proofs.SaidByMap.{Where, machine_at, state_at, answer_answers, answer_counts, due_is}
 use Rattle.am_line_dialogue.proofs.SaidByMap.{one_view}
 use Rattle.am_line_dialogue.proofs.SaidByMap.{next_did, next_committed, next_aborted, ops_did}
-use Rattle.am_replica.specs.Bodies.{refusal_behind, own_by, own_behind, kept_behind, kept, reply_by, reply_behind}
+use Rattle.am_replica.specs.Bodies.{refusal_behind, own_by, own_behind, kept_behind, kept_ops, reply_by, reply_behind}
 use Rattle.am_replica.specs.Bodies.{replies_behind, replies, leaves}
 use Rattle.am_replica_store.specs.Alone.{notes_of, committed_map, draft_map, IsIdle, IsFree, IsInside, IsAlone}
 use Rattle.am_replica_store.specs.Alone.{is_out_of_room, IsCommitted, IsAborted}
@@ -117,7 +117,7 @@ early many unordered unbounded full =
 
 out_of_room : (why : Refusal) (r : Reply) → r ≡ Refused why → is_out_of_room (Refused why) ≡ true →
     is_out_of_room r ≡ false → ⊥
-out_of_room why r is out kept = true≢false (sym out ∙ ap is_out_of_room (sym is) ∙ kept)
+out_of_room why r is out kept_ops = true≢false (sym out ∙ ap is_out_of_room (sym is) ∙ kept_ops)
 
 -- where there is room, it is due as it is where no run is one too many
 settled : (a b c d : Bool) (late : Option Refusal) (r told : Reply) →
@@ -352,7 +352,7 @@ pub record Ran (p : StoreState) (t : ℕ) (m : PlainMap) (told : List Reply) (re
   pub own : List Op
   pub inside : IsInside p t own m
   pub answers : told ++ replies_behind own m rest ≡ replies asked m
-  pub keeps : kept_behind own rest ≡ kept asked
+  pub keeps : kept_behind own rest ≡ kept_ops asked
 
 pub ran_none : (p : StoreState) (t : ℕ) (m : PlainMap) (asked : List Op) → IsInside p t [] m → Ran p t m [] asked asked
 ran_none p t m asked inside = record { own = []; inside = inside; answers = refl; keeps = refl }

@@ -1,5 +1,6 @@
 -- A store with one transaction at a time: its committed records, and those that a commit would leave.
 use Rattle.std.specs.Prelude.{◌≡◌, ℕ, List, [], ◌∷◌, Bool, true, false, Option, Some, None}
+use Rattle.am_record.specs.Limits.{max_runs}
 use Rattle.am_record.specs.Plain.{PlainMap}
 use Rattle.am_record.specs.declared.step.Op.{Op}
 use Rattle.am_record.specs.declared.step.Reply.{Reply}
@@ -34,7 +35,7 @@ IsIdle p = p.active ≡ []
 pub record IsFree (p : StoreState) : Type 0 where
   pub trace : Trace
   pub at : IsStateOf trace p
-  pub most : p.most_runs ≡ 65535
+  pub most : p.most_runs ≡ max_runs
   pub none : (after_all opened trace).state.active ≡ []
 
 -- the newest transaction alone is active, on these committed records, and was answered these operations
@@ -42,7 +43,7 @@ pub record IsInside (p : StoreState) (t : ℕ) (own : List Op) (m : PlainMap) : 
   pub trace : Trace
   pub body : List Answered
   pub at : IsStateOf trace p
-  pub most : p.most_runs ≡ 65535
+  pub most : p.most_runs ≡ max_runs
   pub newest : p.begun ≡ t
   pub alone : (after_all opened trace).state.active ≡ ((after_all opened trace).state.begun, body) ∷ []
   pub answered : ops_of body ≡ own

@@ -12,36 +12,37 @@ use Rattle.am_record.specs.declared.step.Reply.{Reply}
 use Rattle.am_line_wire.specs.declared.request.Request.TheVariants.{Do, Stage}
 use Rattle.am_line_dialogue.specs.declared.lines.ParsedLine.{ParsedLine}
 use Rattle.am_line_dialogue.specs.declared.lines.ParsedLine.TheVariants.{Asked}
-use Rattle.am_replica_entries.specs.Reading.{entry_at}
+use Rattle.am_replica_entries.specs.Reading.{entry_in}
 use Rattle.am_replica_entries.specs.declared.block.Block.{Block as EntryBlock}
-use Rattle.am_replica_entries.specs.Texts.{TheBlock, view, views}
+use Rattle.am_replica_entries.specs.Texts.{TheBlock, the_block, the_blocks}
 use Rattle.am_replica.specs.Bodies.{replies, leaves, given}
-use Rattle.am_replica.specs.Ordered.{Sum, same_sum, Ordered, Seen, Stands, Fails, outcome, after, outcomes, after_all}
+use Rattle.am_replica.specs.Ordered.{Sum, same_sum, Ordered, Verdict, Stands, Fails, outcome, after_block, outcomes}
+use Rattle.am_replica.specs.Ordered.{after_blocks}
 use Rattle.am_replica.specs.declared.block.Block.{Block}
-use Rattle.am_replica_blocks.specs.Blocks.{Line, Asks, Stages, waiting, ops_of}
+use Rattle.am_replica_blocks.specs.Blocks.{BlockLine, Asks, Stages, waiting, asked_ops}
 use Rattle.am_replica_lines.specs.Lines.{said, asked_by, is_own, LeavesWaiting, IsBlockOf, told_lines}
 use Rattle.am_replica_texts.specs.Entries.{AreBlocksOf, IsEntryOf, IsNoEntry}
 
 -- ---- what is asked tells the lines
 
-abbrev line_of_asked : ParsedLine → List Line
+abbrev line_of_asked : ParsedLine → List BlockLine
 line_of_asked (Asked (Do op)) = Asks op ∷ []
 line_of_asked (Asked (Stage records)) = Stages records ∷ []
 line_of_asked parsed = []
 
-abbrev lines_of_asked : List ParsedLine → List Line
+abbrev lines_of_asked : List ParsedLine → List BlockLine
 lines_of_asked [] = []
 lines_of_asked (parsed ∷ rest) = line_of_asked parsed ++ lines_of_asked rest
 
-lines_again : (lines : List Line) → lines_of_asked (asked_by lines) ≡ lines
+lines_again : (lines : List BlockLine) → lines_of_asked (asked_by lines) ≡ lines
 lines_again [] = refl
 lines_again (Asks op ∷ lines) = ap (λ ls. Asks op ∷ ls) (lines_again lines)
 lines_again (Stages records ∷ lines) = ap (λ ls. Stages records ∷ ls) (lines_again lines)
 
-one_asked : (a b : List Line) → asked_by a ≡ asked_by b → a ≡ b
+one_asked : (a b : List BlockLine) → asked_by a ≡ asked_by b → a ≡ b
 one_asked a b same = sym (lines_again a) ∙ ap lines_of_asked same ∙ lines_again b
 
-all_own : (lines : List Line) → list_all is_own (asked_by lines) ≡ true
+all_own : (lines : List BlockLine) → list_all is_own (asked_by lines) ≡ true
 all_own [] = refl
 all_own (Asks op ∷ lines) = all_own lines
 all_own (Stages records ∷ lines) = all_own lines
@@ -72,8 +73,8 @@ alike digest e a b of_a of_b =
     let same : of_a.lines.lines ≡ of_b.lines.lines =
     one_asked of_a.lines.lines of_b.lines.lines (sym of_a.lines.asks ∙ of_b.lines.asks) in
     record {
-      ops = of_a.lines.all ∙ ap (ops_of []) same ∙ sym of_b.lines.all;
-      told = of_a.lines.of_first ∙ ap (λ ls. length (ops_of [] (take (told_lines e.told) ls))) same
+      ops = of_a.lines.all ∙ ap (asked_ops []) same ∙ sym of_b.lines.all;
+      told = of_a.lines.of_first ∙ ap (λ ls. length (asked_ops [] (take (told_lines e.told) ls))) same
           ∙ sym of_b.lines.of_first;
       digest = of_a.sum ∙ sym of_b.sum;
     }
@@ -81,7 +82,7 @@ alike digest e a b of_a of_b =
 abbrev stands_by : (List Reply → Sum) → List Op → ℕ → Sum → PlainMap → Bool
 stands_by digest ops told sum m = same_sum (digest (given (take told (replies ops m)))) sum
 
-abbrev outcome_of : (List Reply → Sum) → List Op → ℕ → Sum → Ordered → Seen
+abbrev outcome_of : (List Reply → Sum) → List Op → ℕ → Sum → Ordered → Verdict
 outcome_of digest ops told sum s =
     cond (stands_by digest ops told sum s.map) (Stands (s.commits + 1) (replies ops s.map)) Fails
 
@@ -93,20 +94,20 @@ alike_outcome : (digest : List Reply → Sum) (a b : Block) (s : Ordered) → Is
     outcome digest b s
 alike_outcome digest a b s same = λ i. outcome_of digest (same.ops i) (same.told i) (same.digest i) s
 
-alike_after : (digest : List Reply → Sum) (a b : Block) (s : Ordered) → IsAlike a b → after digest a s ≡
-    after digest b s
+alike_after : (digest : List Reply → Sum) (a b : Block) (s : Ordered) → IsAlike a b → after_block digest a s ≡
+    after_block digest b s
 alike_after digest a b s same = λ i. after_of digest (same.ops i) (same.told i) (same.digest i) s
 
 each_alike : (digest : List Reply → Sum) (entry : List TheBlock) (a b : List Block) (s : Ordered) →
     AreBlocksOf digest entry a → AreBlocksOf digest entry b → (outcomes digest a s ≡ outcomes digest b s)
-    × (after_all digest a s ≡ after_all digest b s)
+    × (after_blocks digest a s ≡ after_blocks digest b s)
 each_alike digest [] [] [] s of_a of_b = (refl, refl)
 each_alike digest (e ∷ entry) (a ∷ xs) (b ∷ ys) s of_a of_b =
     let same = alike digest e a b of_a.0 of_b.0 in
-    let rest = each_alike digest entry xs ys (after digest b s) of_a.1 of_b.1 in (
+    let rest = each_alike digest entry xs ys (after_block digest b s) of_a.1 of_b.1 in (
       (λ i. alike_outcome digest a b s same i ∷ outcomes digest xs (alike_after digest a b s same i))
           ∙ ap (λ others. outcome digest b s ∷ others) rest.0,
-      ap (after_all digest xs) (alike_after digest a b s same) ∙ rest.1,
+      ap (after_blocks digest xs) (alike_after digest a b s same) ∙ rest.1,
     )
 each_alike digest [] (a ∷ xs) b s of_a of_b = absurd of_a
 each_alike digest [] [] (b ∷ ys) s of_a of_b = absurd of_b
@@ -121,7 +122,7 @@ err_is_one e = cc
 
 pub one_outcome : (digest : List Reply → Sum) (text : List ℕ) (a b : List Block) (s : Ordered) →
     IsEntryOf digest text a → IsEntryOf digest text b → (outcomes digest a s ≡ outcomes digest b s)
-    × (after_all digest a s ≡ after_all digest b s)
+    × (after_blocks digest a s ≡ after_blocks digest b s)
 one_outcome digest text a b s of_a of_b =
     let same : of_a.entry ≡ of_b.entry = ok_is_one (sym of_a.read ∙ of_b.read) in
     each_alike digest of_b.entry a b s (subst (λ e. AreBlocksOf digest e a) same of_a.each) of_b.each
@@ -152,7 +153,7 @@ same_length digest (x ∷ entry) [] of = absurd of
 
 -- ---- a text that is none
 
-pub no_entry : (digest : List Reply → Sum) (text : List ℕ) (entry : List TheBlock) → entry_at text ≡ Ok entry →
+pub no_entry : (digest : List Reply → Sum) (text : List ℕ) (entry : List TheBlock) → entry_in text ≡ Ok entry →
     ((blocks : List Block) → AreBlocksOf digest entry blocks → ⊥) → IsNoEntry digest text
 no_entry digest text entry read none blocks of = none blocks
     (subst (λ e. AreBlocksOf digest e blocks) (ok_is_one (sym of.read ∙ read)) of.each)
@@ -160,28 +161,28 @@ no_entry digest text entry read none blocks of = none blocks
 -- ---- an entry's blocks one by one
 
 pub one_more_view : (entry : List EntryBlock) (i : ℕ) (block : EntryBlock) → i < length entry →
-    block ≡ get_or entry i block → views (take (i + 1) entry) ≡ views (take i entry) ++ view block ∷ []
+    block ≡ get_or entry i block → the_blocks (take (i + 1) entry) ≡ the_blocks (take i entry) ++ the_block block ∷ []
 one_more_view entry i block inside is =
-    ap views (take_more entry i block inside ∙ ap (λ b. take i entry ++ b ∷ []) (sym is))
-    ∙ map-append view (take i entry) (block ∷ [])
+    ap the_blocks (take_more entry i block inside ∙ ap (λ b. take i entry ++ b ∷ []) (sym is))
+    ∙ map-append the_block (take i entry) (block ∷ [])
 
 pub none_at : (digest : List Reply → Sum) (entry : List EntryBlock) (i : ℕ) (block : EntryBlock) → i < length entry →
-    block ≡ get_or entry i block → ((b : Block) → IsBlockOf digest (view block) b → ⊥) → (blocks : List Block) →
-    AreBlocksOf digest (views entry) blocks → ⊥
+    block ≡ get_or entry i block → ((b : Block) → IsBlockOf digest (the_block block) b → ⊥) → (blocks : List Block) →
+    AreBlocksOf digest (the_blocks entry) blocks → ⊥
 none_at digest entry i block inside is none blocks of =
-    let parts : views entry ≡ views (take i entry) ++ view block ∷ views (drop (i + 1) entry) =
-    ap views (sym (take-append-drop i entry) ∙ ap (λ rest. take i entry ++ rest)
+    let parts : the_blocks entry ≡ the_blocks (take i entry) ++ the_block block ∷ the_blocks (drop (i + 1) entry) =
+    ap the_blocks (sym (take-append-drop i entry) ∙ ap (λ rest. take i entry ++ rest)
     (drop_more entry i block inside ∙ ap (λ b. b ∷ drop (i + 1) entry) (sym is)))
-    ∙ map-append view (take i entry) (block ∷ drop (i + 1) entry) in
-    none_of digest (views (take i entry)) (view block) (views (drop (i + 1) entry)) none blocks
+    ∙ map-append the_block (take i entry) (block ∷ drop (i + 1) entry) in
+    none_of digest (the_blocks (take i entry)) (the_block block) (the_blocks (drop (i + 1) entry)) none blocks
     (subst (λ e. AreBlocksOf digest e blocks) parts of)
 
 pub few_blocks : {A E : Type 0} (digest : List Reply → Sum) (entry items : List EntryBlock)
-    (result : Result (Vec Block A) E) → entry ≡ items → length (views items) < 2 ^ 32 →
-    IfOk result (λ blocks. AreBlocksOf digest (views entry) blocks.items) →
+    (result : Result (Vec Block A) E) → entry ≡ items → length (the_blocks items) < 2 ^ 32 →
+    IfOk result (λ blocks. AreBlocksOf digest (the_blocks entry) blocks.items) →
     IfOk result (λ blocks. length blocks.items < 2 ^ 32)
 few_blocks digest entry items (Ok blocks) same few of =
-    let long : length blocks.items ≡ length (views items) =
-    same_length digest (views entry) blocks.items of ∙ ap (λ es. length (views es)) same in
+    let long : length blocks.items ≡ length (the_blocks items) =
+    same_length digest (the_blocks entry) blocks.items of ∙ ap (λ es. length (the_blocks es)) same in
     omega (arith, few, long)
 few_blocks digest entry items (Err e) same few of = tt

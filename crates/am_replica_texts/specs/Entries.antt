@@ -1,10 +1,10 @@
 -- The texts of entries, as a replica takes them.
 use Rattle.std.specs.Prelude.{◌≡◌, ℕ, List, [], ◌∷◌, Ok}
 use Rattle.am_record.specs.declared.step.Reply.{Reply}
-use Rattle.am_replica_entries.specs.Reading.{entry_at}
+use Rattle.am_replica_entries.specs.Reading.{entry_in}
 use Rattle.am_replica_entries.specs.Texts.{TheBlock}
 use Rattle.am_replica_lines.specs.Lines.{IsBlockOf}
-use Rattle.am_replica.specs.Ordered.{Sum, Ordered, Seen, seen_all, outcomes, after_all}
+use Rattle.am_replica.specs.Ordered.{Sum, Ordered, Verdict, verdicts, outcomes, after_blocks}
 use Rattle.am_replica.specs.declared.block.Block.{Block}
 use Rattle.am_replica_texts.specs.declared.apply.EntryOutcome.{EntryOutcome}
 use Rattle.am_replica_texts.specs.declared.apply.EntryOutcome.TheVariants.{Applied, Nothing}
@@ -18,7 +18,7 @@ AreBlocksOf digest entry blocks = ⊥
 -- the text is that of an entry with these blocks
 pub record IsEntryOf (digest : List Reply → Sum) (text : List ℕ) (blocks : List Block) : Type 0 where
   pub entry : List TheBlock
-  pub read : entry_at text ≡ Ok entry
+  pub read : entry_in text ≡ Ok entry
   pub each : AreBlocksOf digest entry blocks
 
 -- it is none of an entry
@@ -26,14 +26,14 @@ abbrev pub IsNoEntry : (List Reply → Sum) → List ℕ → Type 0
 IsNoEntry digest text = (blocks : List Block) → IsEntryOf digest text blocks → ⊥
 
 -- the entry's blocks come to what they come to in their turn, and lead where they lead
-pub record AreApplied (digest : List Reply → Sum) (text : List ℕ) (old : Ordered) (told : List Seen) (new : Ordered)
+pub record AreApplied (digest : List Reply → Sum) (text : List ℕ) (old : Ordered) (told : List Verdict) (new : Ordered)
     : Type 0 where
   pub blocks : List Block
   pub of : IsEntryOf digest text blocks
   pub comes : told ≡ outcomes digest blocks old
-  pub leads : new ≡ after_all digest blocks old
+  pub leads : new ≡ after_blocks digest blocks old
 
 -- what became of a text
 abbrev pub IsApplied : (List Reply → Sum) → List ℕ → Ordered → EntryOutcome → Ordered → Type 0
-IsApplied digest text old (Applied told) new = AreApplied digest text old (seen_all told.items) new
+IsApplied digest text old (Applied told) new = AreApplied digest text old (verdicts told.items) new
 IsApplied digest text old Nothing new = IsNoEntry digest text × (new ≡ old)

@@ -1,7 +1,7 @@
 //! The blocks of an entry's text.
 
 ghost use Rattle.std.specs.Prelude.{◌≡◌, ◌<◌, ◌^◌, List, length, IfOk};
-ghost use Rattle.am_replica_entries.specs.Texts.{view, views};
+ghost use Rattle.am_replica_entries.specs.Texts.{the_block, the_blocks};
 ghost use Rattle.am_replica_lines.specs.Lines.{IsBlockOf};
 ghost use Rattle.am_replica.specs.declared.block.Block.{Block as TheBlock};
 ghost use Rattle.am_replica_texts.specs.Entries.{AreBlocksOf, IsEntryOf, IsNoEntry};
@@ -66,9 +66,9 @@ fn all_blocks<D: Digest>(
     digest: &D,
     entry: &[am_replica_entries::Block],
 ) -> Result<Vec<Block>, TextFault>
-    ensures read { IfOk result (λ blocks. AreBlocksOf D.digest_of (views entry.now) blocks.items) }
+    ensures read { IfOk result (λ blocks. AreBlocksOf D.digest_of (the_blocks entry.now) blocks.items) }
     ensures none { result ≡ Err TextFault.NoEntry → (blocks : List TheBlock) →
-        AreBlocksOf D.digest_of (views entry.now) blocks → ⊥ }
+        AreBlocksOf D.digest_of (the_blocks entry.now) blocks → ⊥ }
 {
     let mut blocks = Vec::with_capacity(alloc, entry.len())?;
     for block in entry {
@@ -82,8 +82,8 @@ fn one_block<D: Digest>(
     digest: &D,
     block: &am_replica_entries::Block,
 ) -> Result<Block, TextFault>
-    ensures read { IfOk result (λ b. IsBlockOf D.digest_of (view block.now) b) }
-    ensures none { result ≡ Err TextFault.NoEntry → (b : TheBlock) → IsBlockOf D.digest_of (view block.now) b → ⊥ }
+    ensures read { IfOk result (λ b. IsBlockOf D.digest_of (the_block block.now) b) }
+    ensures none { result ≡ Err TextFault.NoEntry → (b : TheBlock) → IsBlockOf D.digest_of (the_block block.now) b → ⊥ }
 {
     match read_block(alloc, digest, block) {
         Ok(read) => Ok(read),

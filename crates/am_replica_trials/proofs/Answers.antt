@@ -12,14 +12,14 @@ use Rattle.am_line_dialogue.specs.Actions.{with_staged, staged_left, stage_respo
 use Rattle.am_line_dialogue.specs.ParsedLine.{parsed}
 use Rattle.am_line_dialogue.specs.declared.lines.ParsedLine.TheVariants.{Asked}
 use Rattle.am_line_dialogue.specs.declared.response.Response.{Response}
-use Rattle.am_replica.specs.Bodies.{kept, replies}
+use Rattle.am_replica.specs.Bodies.{kept_ops, replies}
 use Rattle.am_replica.specs.Ordered.{Sum}
 use Rattle.am_replica.specs.Told.{TransactionState, still_stands, behind_lines, untold}
 use Rattle.am_replica.proofs.Given.{replies_length}
-use Rattle.am_replica_blocks.specs.Blocks.{Line, Asks, Stages, staged_by, waiting, ops_of}
+use Rattle.am_replica_blocks.specs.Blocks.{BlockLine, Asks, Stages, staged_by, waiting, asked_ops}
 use Rattle.am_replica_lines.specs.Lines.{at_work}
 use Rattle.am_replica_lines.proofs.Lines.{ops_of-push}
-use Rattle.am_replica_trials.specs.Trials.{Stand, HasLines, has_room, whole_op, IsReply, IsStage}
+use Rattle.am_replica_trials.specs.Trials.{TrialState, HasLines, has_room, whole_op, IsOwnReply, IsStage}
 use Rattle.am_replica_trials.proofs.Lines.{has_more, kept_more}
 
 one_reply : (front replies : List Reply) (reply : Reply) → replies ≡ front ++ reply ∷ [] → length replies ≡ 1 →
@@ -37,14 +37,14 @@ one_untold t op m =
     let left = length-drop (length t.ops) (replies (t.ops ++ op ∷ []) m) in
     omega arith
 
-module _ (digest : List Reply → Sum) (own : List Line) (s s' : Stand) (line : List ℕ) (has : HasLines own s)
+module _ (digest : List Reply → Sum) (own : List BlockLine) (s s' : TrialState) (line : List ℕ) (has : HasLines own s)
     (one : HasNoLf line) (room : has_room s line ≡ true) (on : s.is_over ≡ false) where
   pub replied : (op : Op) (m : PlainMap) (front : List Reply) (reply : Reply) →
       parsed (line_of line) ≡ Asked (Do op) → still_stands digest s.transaction (whole_op own op) m ≡ true →
       untold s.transaction (whole_op own op) m ≡ front ++ reply ∷ [] →
       s'.transaction ≡ behind_lines digest s.transaction (whole_op own op) m →
       s'.session ≡ at_work (staged_left (waiting [] own) op) → s'.lines ≡ s.lines ++ (line ++ 10 ∷ []) →
-      s'.answered ≡ s.answered + 1 → s'.is_over ≡ s.is_over → IsReply digest own s line m reply s'
+      s'.answered ≡ s.answered + 1 → s'.is_over ≡ s.is_over → IsOwnReply digest own s line m reply s'
   replied op m front reply asks stands told goes_on session lines answered over =
       let whole = with_staged (waiting [] own) op in
       record {
@@ -58,9 +58,9 @@ module _ (digest : List Reply → Sum) (own : List Line) (s s' : Stand) (line : 
         goes_on = goes_on;
         has = has_more own s s' line (Asks op) has one room asks lines answered
             (ap (λ (t : TransactionState). t.ops) goes_on
-            ∙ ap (λ ops. kept (ops ++ whole ∷ [])) has.ops
-            ∙ kept_more (ops_of [] own) whole
-            ∙ ap kept (sym (ops_of-push [] own (Asks op))))
+            ∙ ap (λ ops. kept_ops (ops ++ whole ∷ [])) has.ops
+            ∙ kept_more (asked_ops [] own) whole
+            ∙ ap kept_ops (sym (ops_of-push [] own (Asks op))))
             session (over ∙ on ∙ sym (ap (λ (t : TransactionState). t.is_over) goes_on));
       }
 
@@ -78,7 +78,7 @@ module _ (digest : List Reply → Sum) (own : List Line) (s s' : Stand) (line : 
     has = has_more own s s' line (Stages records) has one room asks lines answered
         (ap (λ (t : TransactionState). t.ops) same
         ∙ has.ops
-        ∙ ap kept (sym (ops_of-push [] own (Stages records) ∙ append-nil (ops_of [] own))))
+        ∙ ap kept_ops (sym (ops_of-push [] own (Stages records) ∙ append-nil (asked_ops [] own))))
         session
         (over ∙ has.over ∙ sym (ap (λ (t : TransactionState). t.is_over) same));
   }

@@ -6,48 +6,49 @@ use Rattle.am_record.specs.Plain.{PlainMap, answers}
 use Rattle.am_record.specs.declared.step.Op.{Op}
 use Rattle.am_record.specs.declared.step.Reply.{Reply}
 use Rattle.am_replica.specs.declared.block.Block.{Block}
-use Rattle.am_replica.specs.Bodies.{kept, replies, given}
+use Rattle.am_replica.specs.Bodies.{kept_ops, replies, given}
 use Rattle.am_replica.specs.Ordered.{Sum, same_sum, stands}
 use Rattle.am_replica.specs.Told.{still_stands}
 use Rattle.am_replica.proofs.Given.{replies_length, given_are_answers}
 use Rattle.am_replica.proofs.Kept.{kept_twice}
-use Rattle.am_replica_blocks.specs.Blocks.{Line, waiting, ops_of}
+use Rattle.am_replica_blocks.specs.Blocks.{BlockLine, waiting, asked_ops}
 use Rattle.am_replica_entries.specs.declared.block.Told.{Told}
 use Rattle.am_replica_lines.specs.Lines.{AsksOps, told_lines}
-use Rattle.am_replica_trials.specs.Trials.{Stand, HasLines}
+use Rattle.am_replica_trials.specs.Trials.{TrialState, HasLines}
 
 -- all answers of operations, and of those that are kept
-answered : (m : PlainMap) (ops : List Op) → given (take (length ops) (replies ops m)) ≡ answers (kept ops) m
+answered : (m : PlainMap) (ops : List Op) → given (take (length ops) (replies ops m)) ≡ answers (kept_ops ops) m
 answered m ops =
     ap given (take_all (length ops) (replies ops m)
     (let same : length (replies ops m) ≡ length ops = replies_length m [] ops in omega arith))
     ∙ sym (given_are_answers m [] ops)
 
-pub stands_alike : (digest : List Reply → Sum) (own : List Line) (s : Stand) (block : Block) (m : PlainMap) →
-    HasLines own s → block.ops.items ≡ ops_of [] own → block.told ≡ length (ops_of [] own) →
+pub stands_alike : (digest : List Reply → Sum) (own : List BlockLine) (s : TrialState) (block : Block) (m : PlainMap) →
+    HasLines own s → block.ops.items ≡ asked_ops [] own → block.told ≡ length (asked_ops [] own) →
     block.digest ≡ s.transaction.digest → stands digest block m ≡ still_stands digest s.transaction [] m
 stands_alike digest own s block m has ops told sum =
-    let all = ops_of [] own in
-    let block_answers : given (take block.told (replies block.ops.items m)) ≡ answers (kept all) m =
+    let all = asked_ops [] own in
+    let block_answers : given (take block.told (replies block.ops.items m)) ≡ answers (kept_ops all) m =
     (λ i. given (take (told i) (replies (ops i) m))) ∙ answered m all in
-    let kept_are : s.transaction.ops ++ [] ≡ kept all = append-nil s.transaction.ops ∙ has.ops in
+    let kept_are : s.transaction.ops ++ [] ≡ kept_ops all = append-nil s.transaction.ops ∙ has.ops in
     let trial_answers : given (take (length s.transaction.ops) (replies (s.transaction.ops ++ []) m)) ≡
-    answers (kept all) m =
+    answers (kept_ops all) m =
     (λ i. given (take (length (has.ops i)) (replies (kept_are i) m)))
-    ∙ answered m (kept all)
+    ∙ answered m (kept_ops all)
     ∙ ap (λ os. answers os m) (kept_twice all) in
     (λ i. same_sum (digest (block_answers i)) (sum i))
     ∙ (λ i. same_sum (digest (sym trial_answers i)) s.transaction.digest)
 
 -- its lines, all of which were told
-pub asks_all : (own : List Line) (s : Stand) (first : ℕ) → HasLines own s → waiting [] own ≡ [] → first ≡ s.answered →
-    AsksOps s.lines first (ops_of [] own) (length (ops_of [] own))
+pub asks_all : (own : List BlockLine) (s : TrialState) (first : ℕ) → HasLines own s → waiting [] own ≡ [] →
+    first ≡ s.answered →
+    AsksOps s.lines first (asked_ops [] own) (length (asked_ops [] own))
 asks_all own s first has none all = record {
   lines = own;
   asks = has.asks;
   all = refl;
   none_waits = none;
-  of_first = ap (λ lines. length (ops_of [] lines)) (sym (take_all first own
+  of_first = ap (λ lines. length (asked_ops [] lines)) (sym (take_all first own
       (let each : s.answered ≡ length own = has.each in omega arith)));
 }
 

@@ -8,12 +8,12 @@ use Rattle.am_line_source.specs.Lines.{line_of, lines_of, HasNoLf}
 use Rattle.am_line_source.proofs.CutLines.{lines_of-ended}
 use Rattle.am_line_dialogue.specs.ParsedLine.{parsed}
 use Rattle.am_line_dialogue.specs.declared.lines.ParsedLine.TheVariants.{Asked}
-use Rattle.am_replica.specs.Bodies.{kept, own_behind, kept_behind}
+use Rattle.am_replica.specs.Bodies.{kept_ops, own_behind, kept_behind}
 use Rattle.am_replica.proofs.Kept.{kept_twice}
-use Rattle.am_replica_blocks.specs.Blocks.{Line, request_of, waiting, ops_of}
+use Rattle.am_replica_blocks.specs.Blocks.{BlockLine, line_request, waiting, asked_ops}
 use Rattle.am_replica_lines.specs.Lines.{said, at_work}
 use Rattle.am_replica_lines.proofs.Lines.{ops_of-push, waiting-push}
-use Rattle.am_replica_trials.specs.Trials.{Stand, HasLines, has_room}
+use Rattle.am_replica_trials.specs.Trials.{TrialState, HasLines, has_room}
 
 -- ---- the bytes with one line more
 
@@ -39,18 +39,20 @@ kept_push own [] op = refl
 kept_push own (o ∷ ops) op = kept_push (own_behind own o) ops op
 
 -- what was kept and one operation more is kept as all of them are
-pub kept_more : (ops : List Op) (op : Op) → kept (kept ops ++ op ∷ []) ≡ kept (ops ++ op ∷ [])
+pub kept_more : (ops : List Op) (op : Op) → kept_ops (kept_ops ops ++ op ∷ []) ≡ kept_ops (ops ++ op ∷ [])
 kept_more ops op =
-    kept_push [] (kept ops) op
+    kept_push [] (kept_ops ops) op
     ∙ ap (λ own. own_behind own op) (kept_twice ops)
     ∙ sym (kept_push [] ops op)
 
 -- ---- the transaction with one line more
 
-pub has_more : (own : List Line) (s s' : Stand) (line : List ℕ) (l : Line) → HasLines own s → HasNoLf line →
-    has_room s line ≡ true → parsed (line_of line) ≡ Asked (request_of l) →
+pub has_more : (own : List BlockLine) (s s' : TrialState) (line : List ℕ) (l : BlockLine) → HasLines own s →
+    HasNoLf line →
+    has_room s line ≡ true → parsed (line_of line) ≡ Asked (line_request l) →
     s'.lines ≡ s.lines ++ (line ++ 10 ∷ []) → s'.answered ≡ s.answered + 1 →
-    s'.transaction.ops ≡ kept (ops_of [] (own ++ l ∷ [])) → s'.session ≡ at_work (waiting (waiting [] own) (l ∷ [])) →
+    s'.transaction.ops ≡ kept_ops (asked_ops [] (own ++ l ∷ [])) →
+    s'.session ≡ at_work (waiting (waiting [] own) (l ∷ [])) →
     s'.is_over ≡ s'.transaction.is_over → HasLines (own ++ l ∷ []) s'
 has_more own s s' line l has one room asks lines answered ops session over =
     let put : lines_of s'.lines ≡ lines_of s.lines ++ line_of line ∷ [] =
@@ -65,7 +67,7 @@ has_more own s s' line l has one room asks lines answered ops session over =
           ap (λ ls. map parsed ls) put
           ∙ map-append parsed (lines_of s.lines) (line_of line ∷ [])
           ∙ (λ i. has.asks i ++ asks i ∷ [])
-          ∙ sym (map-append (λ (x : Line). Asked (request_of x)) own (l ∷ []));
+          ∙ sym (map-append (λ (x : BlockLine). Asked (line_request x)) own (l ∷ []));
       whole = λ more.
           ap (λ bytes. lines_of (bytes ++ more)) lines
           ∙ whole_push s.lines line one has.whole more

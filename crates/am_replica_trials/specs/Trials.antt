@@ -11,16 +11,16 @@ use Rattle.am_line_dialogue.specs.ParsedLine.{parsed}
 use Rattle.am_line_dialogue.specs.Session.{SessionState}
 use Rattle.am_line_dialogue.specs.declared.lines.ParsedLine.TheVariants.{Asked}
 use Rattle.am_line_dialogue.specs.declared.response.Response.{Response}
-use Rattle.am_replica.specs.Bodies.{kept}
+use Rattle.am_replica.specs.Bodies.{kept_ops}
 use Rattle.am_replica.specs.Ordered.{Sum}
 use Rattle.am_replica.specs.Told.{TransactionState, still_stands, behind_lines, untold}
-use Rattle.am_replica_blocks.specs.Blocks.{Line, Asks, Stages, waiting, ops_of}
+use Rattle.am_replica_blocks.specs.Blocks.{BlockLine, Asks, Stages, waiting, asked_ops}
 use Rattle.am_replica_lines.specs.Lines.{said, asked_by, is_own, at_work}
 use Rattle.am_replica_trials.specs.declared.answer.TrialAnswer.{TrialAnswer}
 use Rattle.am_replica_trials.specs.declared.answer.TrialAnswer.TheVariants as answer
 
 -- what a transaction was told, what waits, the lines that were answered, and whether an earlier answer no longer came
-pub record Stand : Type 0 where
+pub record TrialState : Type 0 where
   pub transaction : TransactionState
   pub session : SessionState
   pub lines : List ℕ
@@ -28,26 +28,26 @@ pub record Stand : Type 0 where
   pub is_over : Bool
 
 -- these are its lines: whole ones, which asked for its operations, and have these records wait
-pub record HasLines (own : List Line) (s : Stand) : Type 0 where
+pub record HasLines (own : List BlockLine) (s : TrialState) : Type 0 where
   pub asks : said s.lines ≡ asked_by own
   pub whole : (more : List ℕ) → lines_of (s.lines ++ more) ≡ lines_of s.lines ++ lines_of more
   pub each : s.answered ≡ length own
-  pub ops : s.transaction.ops ≡ kept (ops_of [] own)
+  pub ops : s.transaction.ops ≡ kept_ops (asked_ops [] own)
   pub waits : s.session ≡ at_work (waiting [] own)
   pub few : length s.lines + 99 * s.answered ≤ 64000000
   pub over : s.is_over ≡ s.transaction.is_over
 
 -- whether the block has room for one more
-abbrev pub has_room : Stand → List ℕ → Bool
+abbrev pub has_room : TrialState → List ℕ → Bool
 has_room s line = nat_le (length s.lines + 99 * s.answered + length line + 100) 64000000
 
 -- the operation that a line asks for, with what waits
-abbrev pub whole_op : List Line → Op → List Op
+abbrev pub whole_op : List BlockLine → Op → List Op
 whole_op own op = with_staged (waiting [] own) op ∷ []
 
 -- an operation is answered by the state of the moment, where all earlier answers come again
-pub record IsReply (digest : List Reply → Sum) (own : List Line) (s : Stand) (line : List ℕ) (m : PlainMap)
-    (reply : Reply) (s' : Stand) : Type 0 where
+pub record IsOwnReply (digest : List Reply → Sum) (own : List BlockLine) (s : TrialState) (line : List ℕ) (m : PlainMap)
+    (reply : Reply) (s' : TrialState) : Type 0 where
   pub op : Op
   pub asks : parsed (line_of line) ≡ Asked (Do op)
   pub room : has_room s line ≡ true
@@ -58,7 +58,8 @@ pub record IsReply (digest : List Reply → Sum) (own : List Line) (s : Stand) (
   pub has : HasLines (own ++ Asks op ∷ []) s'
 
 -- records wait, or more would than may
-pub record IsStage (own : List Line) (s : Stand) (line : List ℕ) (response : Response) (s' : Stand) : Type 0 where
+pub record IsStage (own : List BlockLine) (s : TrialState) (line : List ℕ) (response : Response)
+    (s' : TrialState) : Type 0 where
   pub records : Records
   pub asks : parsed (line_of line) ≡ Asked (Stage records)
   pub room : has_room s line ≡ true
@@ -68,18 +69,19 @@ pub record IsStage (own : List Line) (s : Stand) (line : List ℕ) (response : R
   pub has : HasLines (own ++ Stages records ∷ []) s'
 
 -- an earlier answer doesn't come again, now or once before
-pub record IsConflict (digest : List Reply → Sum) (own : List Line) (s : Stand) (line : List ℕ) (m : PlainMap)
-    (s' : Stand) : Type 0 where
+pub record IsConflict (digest : List Reply → Sum) (own : List BlockLine) (s : TrialState) (line : List ℕ) (m : PlainMap)
+    (s' : TrialState) : Type 0 where
   pub asks : is_own (parsed (line_of line)) ≡ true
   pub why : (s.is_over ≡ true) ⊎ ((op : Op) × (parsed (line_of line) ≡ Asked (Do op)) × (has_room s line ≡ true)
       × (still_stands digest s.transaction (whole_op own op) m ≡ false))
   pub over : s'.is_over ≡ true
 
 -- what a line is answered, and where the transaction stands then
-abbrev pub IsAnswered : (List Reply → Sum) → List Line → Stand → List ℕ → PlainMap → TrialAnswer → Stand → Type 0
-IsAnswered digest own s line m (answer.Reply reply) s' = IsReply digest own s line m reply s'
-IsAnswered digest own s line m (answer.Stage response) s' = IsStage own s line response s'
-IsAnswered digest own s line m answer.Conflict s' = IsConflict digest own s line m s'
-IsAnswered digest own s line m answer.Limit s' =
+abbrev pub IsLineAnswered : (List Reply → Sum) → List BlockLine → TrialState → List ℕ → PlainMap → TrialAnswer →
+    TrialState → Type 0
+IsLineAnswered digest own s line m (answer.Reply reply) s' = IsOwnReply digest own s line m reply s'
+IsLineAnswered digest own s line m (answer.Stage response) s' = IsStage own s line response s'
+IsLineAnswered digest own s line m answer.Conflict s' = IsConflict digest own s line m s'
+IsLineAnswered digest own s line m answer.Limit s' =
     (is_own (parsed (line_of line)) ≡ true) × (s.is_over ≡ false) × (has_room s line ≡ false) × (s' ≡ s)
-IsAnswered digest own s line m answer.Other s' = (is_own (parsed (line_of line)) ≡ false) × (s' ≡ s)
+IsLineAnswered digest own s line m answer.Other s' = (is_own (parsed (line_of line)) ≡ false) × (s' ≡ s)

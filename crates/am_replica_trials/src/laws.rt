@@ -6,12 +6,12 @@ ghost use Rattle.am_record.specs.declared.step.Reply.{Reply as TheReply};
 ghost use Rattle.am_replica.specs.declared.block.Block.{Block as TheBlock};
 ghost use Rattle.am_replica.specs.Ordered.{Sum, stands};
 ghost use Rattle.am_replica.specs.Told.{still_stands};
-ghost use Rattle.am_replica_blocks.specs.Blocks.{Line, ops_of};
-ghost use Rattle.am_replica_trials.specs.Trials.{Stand, HasLines};
+ghost use Rattle.am_replica_blocks.specs.Blocks.{BlockLine, asked_ops};
+ghost use Rattle.am_replica_trials.specs.Trials.{TrialState, HasLines};
 
 /// A transaction's block commits on a map exactly where the transaction's answers come again on it.
 pub fn blocks_stand_where_trials_do()
-    ensures { (digest : List TheReply → Sum) (own : List Line) (s : Stand) (block : TheBlock) (m : PlainMap) →
-        HasLines own s → block.ops.items ≡ ops_of [] own → block.told ≡ length (ops_of [] own) →
+    ensures { (digest : List TheReply → Sum) (own : List BlockLine) (s : TrialState) (block : TheBlock) (m : PlainMap) →
+        HasLines own s → block.ops.items ≡ asked_ops [] own → block.told ≡ length (asked_ops [] own) →
         block.digest ≡ s.transaction.digest → stands digest block m ≡ still_stands digest s.transaction [] m }
 {}

@@ -7,9 +7,9 @@ ghost use Rattle.am_line_source.specs.Lines.{HasNoLf, line_of};
 ghost use Rattle.am_line_dialogue.specs.ParsedLine.{parsed};
 ghost use Rattle.am_line_dialogue.specs.declared.lines.ParsedLine.TheVariants.{Asked};
 ghost use Rattle.am_line_dialogue.specs.Actions.{with_staged, staged_left, stage_response};
-ghost use Rattle.am_replica_blocks.specs.Blocks.{Line, staged_by, waiting, ops_of};
+ghost use Rattle.am_replica_blocks.specs.Blocks.{BlockLine, staged_by, waiting, asked_ops};
 ghost use Rattle.am_replica_lines.specs.Lines.{at_work, AsksOps, told_lines};
-ghost use Rattle.am_replica_trials.specs.Trials.{HasLines, IsAnswered, has_room};
+ghost use Rattle.am_replica_trials.specs.Trials.{HasLines, IsLineAnswered, has_room};
 
 use crate::answer::TrialAnswer;
 use am_line_dialogue::{Action, ParsedLine, Response, Session};
@@ -75,14 +75,14 @@ impl LineTransaction {
         requires one { HasNoLf line.now }
         ensures idle { OnOk result (M.idle machine.new) }
         ensures same { OnOk result (M.map machine.new ≡ M.map machine.old) }
-        ensures answered { (own : List Line) → HasLines own (record {
+        ensures answered { (own : List BlockLine) → HasLines own (record {
           transaction = self.old.transaction;
           session = self.old.session;
           lines = self.old.lines.items;
           answered = self.old.answered;
           is_over = self.old.is_over;
         }) →
-            IfOk result (λ answer. IsAnswered D.digest_of own (record {
+            IfOk result (λ answer. IsLineAnswered D.digest_of own (record {
               transaction = self.old.transaction;
               session = self.old.session;
               lines = self.old.lines.items;
@@ -128,7 +128,7 @@ impl LineTransaction {
     /// # Errors
     /// NoMemory, where memory was refused.
     pub fn into_block(self, alloc: Global) -> Result<Block, NoMemory>
-        ensures read { (own : List Line) → HasLines own (record {
+        ensures read { (own : List BlockLine) → HasLines own (record {
           transaction = self.transaction;
           session = self.session;
           lines = self.lines.items;
@@ -136,7 +136,7 @@ impl LineTransaction {
           is_over = self.is_over;
         }) →
             waiting [] own ≡ [] → IfOk result (λ entry. AsksOps entry.lines.items (told_lines entry.told)
-            (ops_of [] own) (length (ops_of [] own))) }
+            (asked_ops [] own) (length (asked_ops [] own))) }
         ensures lines { IfOk result (λ entry. entry.lines.items ≡ self.lines.items) }
         ensures none { self.answered ≡ 0 → IfOk result (λ entry. entry.told ≡ None) }
         ensures told { 0 < self.answered → IfOk result (λ entry. entry.told ≡
@@ -169,7 +169,7 @@ impl LineTransaction {
         requires few { self.old.answered < 2 ^ 31 }
         ensures idle { OnOk result (M.idle machine.new) }
         ensures same { OnOk result (M.map machine.new ≡ M.map machine.old) }
-        ensures answered { (own : List Line) → HasLines own (record {
+        ensures answered { (own : List BlockLine) → HasLines own (record {
           transaction = self.old.transaction;
           session = self.old.session;
           lines = self.old.lines.items;
@@ -184,7 +184,7 @@ impl LineTransaction {
               is_over = self.old.is_over;
             }) line.now ≡ true →
             parsed (line_of line.now) ≡ Asked (Request.Do op) →
-            IfOk result (λ answer. IsAnswered D.digest_of own (record {
+            IfOk result (λ answer. IsLineAnswered D.digest_of own (record {
               transaction = self.old.transaction;
               session = self.old.session;
               lines = self.old.lines.items;

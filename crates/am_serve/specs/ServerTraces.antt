@@ -14,7 +14,7 @@ use Rattle.am_serve_workers.specs.Turns.{AreOfTurns, HasTakenTurns}
 use Rattle.am_trace_writer.specs.Events.{add_count}
 use Rattle.am_serve_connections.specs.Lifetimes.{most_sessions, most_turns, upkeep_of}
 use Rattle.am_serve_connections.specs.declared.lifetime.Lifetime.{Lifetime}
-use Rattle.am_serve.specs.Versions.{most_runs_of}
+use Rattle.am_serve.specs.Versions.{most_runs_for}
 use Rattle.am_serve.specs.declared.server_trace.ServerTrace.{ServerTrace}
 
 abbrev pub HasSameSeat : SessionSeatState → SessionSeatState → Type 0
@@ -93,6 +93,6 @@ pub record IsServerTrace {T : Type 0} (took : T → Trace → T → Type 0) (fir
   pub workers : List SeatState
   pub all_sessions : length sessions ≡ session_count
   pub all_workers : length workers ≡ worker_count
-  pub served : All (IsOfSessions (most_runs_of lifetime) (most_sessions lifetime)) sessions
+  pub served : All (IsOfSessions (most_runs_for lifetime) (most_sessions lifetime)) sessions
   pub worked : All (IsOfWorker lifetime) workers
-  pub stored : HasStored took (most_runs_of lifetime) first (latch_seats sessions ++ workers) s
+  pub stored : HasStored took (most_runs_for lifetime) first (latch_seats sessions ++ workers) s

@@ -11,5 +11,5 @@ version_of Bounded = Two
 version_of Staying = Three
 
 -- as many as that version says
-abbrev pub most_runs_of : Lifetime → ℕ
-most_runs_of lifetime = version.most_runs_of (version_of lifetime)
+abbrev pub most_runs_for : Lifetime → ℕ
+most_runs_for lifetime = version.most_runs_of (version_of lifetime)

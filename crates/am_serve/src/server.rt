@@ -8,7 +8,7 @@ ghost use Rattle.am_serve.specs.ServerTraces.{HasServedInTurn, HasStored, HasWor
 ghost use Rattle.am_serve_connections.specs.Lifetimes.{most_sessions};
 ghost use Rattle.am_serve_drain.specs.Pieces.{HasTaken};
 ghost use Rattle.am_serve.specs.Pieces.{HasClosed};
-ghost use Rattle.am_serve.specs.Versions.{most_runs_of};
+ghost use Rattle.am_serve.specs.Versions.{most_runs_for};
 
 use crate::server_trace::ServerTrace;
 use crate::turns::serve_in_turn;
@@ -188,7 +188,7 @@ pub(crate) fn run<
     setup: DrainSetup<T, V>,
 ) -> Result<ServerTrace<T>, NoMemory>
     requires named { (blank.seats ≡ L.seats) × (blank.table ≡ L.table) × (blank.most_runs ≡ L.most_runs) }
-    requires runs { L.most_runs ≡ most_runs_of shared.now.lifetime }
+    requires runs { L.most_runs ≡ most_runs_for shared.now.lifetime }
     requires counter_seats { All (λ h. h.of ≡ counters.now) counter_seats.items }
     requires few { length counter_seats.items ≤ L.seats }
     requires places { shared.now.connections ≡ length counter_seats.items }

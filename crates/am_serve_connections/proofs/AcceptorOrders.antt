@@ -5,7 +5,7 @@ use Rattle.std.specs.Prelude.{option_to_list}
 use Rattle.std.proofs.lemmas.List.{map-append}
 use Rattle.std.specs.declared.net.tcp.TcpStream.{TcpStream}
 use Rattle.am_serve_connections.specs.declared.waiting.Waiting.{Waiting}
-use Rattle.am_serve_connections.specs.Waits.{oldest_of, due_of, left_of, gone_of, kept_of, is_due}
+use Rattle.am_serve_connections.specs.Waits.{oldest_of, due_of, still_waiting, gone_of, kept_of, waits_no_longer}
 use Rattle.am_serve_connections.specs.WaitingLaws.{Happening, Comes, SeatFree, OneGoes, Leaving, Served, TurnedAway}
 use Rattle.am_serve_connections.specs.WaitingLaws.{stream_of}
 use Rattle.am_serve_connections.specs.WaitingLaws.{Acceptor, empty_acceptor, came_to, seated, acceptor_after}
@@ -43,17 +43,17 @@ gone_first (first ∷ line) =
     ≡ streams (first ∷ line)) [ true ↦ refl | false ↦ refl ]
 
 due_first : (line : List Waiting) (round : ℕ) (is_stopped : Bool) →
-    option_to_list (due_of line round is_stopped) ++ streams (left_of line round is_stopped) ≡ streams line
+    option_to_list (due_of line round is_stopped) ++ streams (still_waiting line round is_stopped) ≡ streams line
 due_first [] round is_stopped = refl
 due_first (first ∷ line) round is_stopped =
-    elim (is_due first.since round is_stopped) as
+    elim (waits_no_longer first.since round is_stopped) as
     (λ b. option_to_list (cond b (Some first.stream) None) ++ streams (cond b line (first ∷ line)) ≡ streams
     (first ∷ line))
     [ true ↦ refl | false ↦ refl ]
 
 -- where nobody waits, nobody goes
-none_left : (line : List Waiting) (round : ℕ) (is_stopped : Bool) → line ≡ [] → left_of line round is_stopped ≡ []
-none_left line round is_stopped none = ap (λ (l : List Waiting). left_of l round is_stopped) none
+none_left : (line : List Waiting) (round : ℕ) (is_stopped : Bool) → line ≡ [] → still_waiting line round is_stopped ≡ []
+none_left line round is_stopped none = ap (λ (l : List Waiting). still_waiting l round is_stopped) none
 
 comes : (free : ℕ) (w : Waiting) (acceptor : Acceptor) (before : List TcpStream) → acceptor.free ≡ free →
     InOrder before acceptor →
@@ -99,7 +99,7 @@ goes : (acceptor : Acceptor) (round : ℕ) (is_stopped : Bool) (before : List Tc
     InOrder before (acceptor_after (OneGoes round is_stopped) acceptor)
 goes acceptor round is_stopped before ordered = record {
   order = some_go acceptor.left (option_to_list (due_of acceptor.line round is_stopped)) acceptor.line
-      (left_of acceptor.line round is_stopped) (due_first acceptor.line round is_stopped) ∙ ordered.order;
+      (still_waiting acceptor.line round is_stopped) (due_first acceptor.line round is_stopped) ∙ ordered.order;
   seats = elim ordered.seats [ inl none ↦ inl none | inr none ↦ inr (none_left acceptor.line round is_stopped none) ];
 }
 

@@ -7,31 +7,33 @@ use Rattle.std.proofs.lemmas.List.{drop-drop, length-drop}
 use Rattle.am_line_source.specs.Lines.{HasNoLf, has_lf}
 use Rattle.am_line_source.proofs.LineEnds.{no_lf}
 use Rattle.am_serve_connections.specs.Http.{is_of_http}
-use Rattle.am_serve_connections.specs.OwnLines.{http_end, line_behind, later}
+use Rattle.am_serve_connections.specs.OwnLines.{http_end, line_behind, moved_on}
 
-pub later-later : (a b : ℕ) (place : Option ℕ) → later a (later b place) ≡ later (a + b) place
-later-later a b None = refl
-later-later a b (Some n) = let same : a + (b + n) ≡ (a + b) + n = omega arith in ap Some same
+pub moved_on-moved_on : (a b : ℕ) (place : Option ℕ) → moved_on a (moved_on b place) ≡ moved_on (a + b) place
+moved_on-moved_on a b None = refl
+moved_on-moved_on a b (Some n) = let same : a + (b + n) ≡ (a + b) + n = omega arith in ap Some same
 
 -- a place in a longer piece
 later-cond : (b : Bool) (n : ℕ) (place : Option ℕ) →
-    later 1 (cond b (Some n) (later (n + 1) place)) ≡ cond b (Some (suc n)) (later (suc n + 1) place)
+    moved_on 1 (cond b (Some n) (moved_on (n + 1) place)) ≡ cond b (Some (suc n)) (moved_on (suc n + 1) place)
 later-cond true n place = let same : 1 + n ≡ suc n = omega arith in ap Some same
 later-cond false n place =
-    let same : 1 + (n + 1) ≡ suc n + 1 = omega arith in later-later 1 (n + 1) place ∙ ap (λ m. later m place) same
+    let same : 1 + (n + 1) ≡ suc n + 1 = omega arith in moved_on-moved_on 1 (n + 1) place ∙
+    ap (λ m. moved_on m place) same
 
 -- bytes that begin with the rest of a line, its LF with it
 pub http_end-ended : (line seg rest : List ℕ) → HasNoLf seg → http_end line (seg ++ 10 ∷ rest) ≡
-    cond (is_of_http (line ++ seg)) (Some (length seg)) (later (length seg + 1) (http_end [] rest))
+    cond (is_of_http (line ++ seg)) (Some (length seg)) (moved_on (length seg + 1) (http_end [] rest))
 http_end-ended line [] rest none =
-    ap (λ (l : List ℕ). cond (is_of_http l) (Some 0) (later 1 (http_end [] rest))) (sym (append-nil line))
+    ap (λ (l : List ℕ). cond (is_of_http l) (Some 0) (moved_on 1 (http_end [] rest))) (sym (append-nil line))
 http_end-ended line (c ∷ seg) rest none =
     let other : eqb c 10 ≡ false = ne_eqb c 10 none.0 in
-    ap (λ b. cond b (cond (is_of_http line) (Some 0) (later 1 (http_end [] (seg ++ 10 ∷ rest))))
-    (later 1 (http_end (line ++ c ∷ []) (seg ++ 10 ∷ rest)))) other ∙
-    ap (later 1) (http_end-ended (line ++ c ∷ []) seg rest none.1) ∙
+    ap (λ b. cond b (cond (is_of_http line) (Some 0) (moved_on 1 (http_end [] (seg ++ 10 ∷ rest))))
+    (moved_on 1 (http_end (line ++ c ∷ []) (seg ++ 10 ∷ rest)))) other ∙
+    ap (moved_on 1) (http_end-ended (line ++ c ∷ []) seg rest none.1) ∙
     later-cond (is_of_http ((line ++ c ∷ []) ++ seg)) (length seg) (http_end [] rest) ∙
-    ap (λ (l : List ℕ). cond (is_of_http l) (Some (suc (length seg))) (later (suc (length seg) + 1) (http_end [] rest)))
+    ap (λ (l : List ℕ). cond (is_of_http l) (Some (suc (length seg)))
+    (moved_on (suc (length seg) + 1) (http_end [] rest)))
     (append_assoc line (c ∷ []) seg)
 
 pub line_behind-ended : (line seg rest : List ℕ) → HasNoLf seg →
@@ -45,9 +47,9 @@ line_behind-ended line (c ∷ seg) rest none =
 pub http_end-open : (line seg : List ℕ) → HasNoLf seg → http_end line seg ≡ None
 http_end-open line [] none = refl
 http_end-open line (c ∷ seg) none =
-    ap (λ b. cond b (cond (is_of_http line) (Some 0) (later 1 (http_end [] seg)))
-    (later 1 (http_end (line ++ c ∷ []) seg)))
-    (ne_eqb c 10 none.0) ∙ ap (later 1) (http_end-open (line ++ c ∷ []) seg none.1)
+    ap (λ b. cond b (cond (is_of_http line) (Some 0) (moved_on 1 (http_end [] seg)))
+    (moved_on 1 (http_end (line ++ c ∷ []) seg)))
+    (ne_eqb c 10 none.0) ∙ ap (moved_on 1) (http_end-open (line ++ c ∷ []) seg none.1)
 
 pub line_behind-open : (line seg : List ℕ) → HasNoLf seg → line_behind line seg ≡ line ++ seg
 line_behind-open line [] none = sym (append-nil line)
@@ -59,23 +61,23 @@ line_behind-open line (c ∷ seg) none =
 at_line : (line bytes seg : List ℕ) → HasNoLf seg → bytes ≡ seg ++ 10 ∷ drop (length seg + 1) bytes →
     http_end line bytes ≡
     cond (is_of_http (line ++ seg)) (Some (length seg))
-    (later (length seg + 1) (http_end [] (drop (length seg + 1) bytes)))
+    (moved_on (length seg + 1) (http_end [] (drop (length seg + 1) bytes)))
 at_line line bytes seg none split =
     ap (http_end line) split ∙ http_end-ended line seg (drop (length seg + 1) bytes) none
 
 -- Of bytes some were looked at, and a line has begun there. The next line is looked at.
 next_line : (first line bytes rest seg : List ℕ) (start : ℕ) (b : Bool) →
-    http_end first bytes ≡ later start (http_end line (drop start bytes)) → rest ≡ drop start bytes → HasNoLf seg →
+    http_end first bytes ≡ moved_on start (http_end line (drop start bytes)) → rest ≡ drop start bytes → HasNoLf seg →
     rest ≡ seg ++ 10 ∷ drop (length seg + 1) rest → is_of_http (line ++ seg) ≡ b → http_end first bytes ≡
-    later start (cond b (Some (length seg)) (later (length seg + 1) (http_end [] (drop (length seg + 1) rest))))
+    moved_on start (cond b (Some (length seg)) (moved_on (length seg + 1) (http_end [] (drop (length seg + 1) rest))))
 next_line first line bytes rest seg start b said rest_is none split http =
-    said ∙ ap (λ (l : List ℕ). later start (http_end line l)) (sym rest_is) ∙
-    ap (later start) (at_line line rest seg none split) ∙
-    ap (λ v. later start (cond v (Some (length seg))
-    (later (length seg + 1) (http_end [] (drop (length seg + 1) rest))))) http
+    said ∙ ap (λ (l : List ℕ). moved_on start (http_end line l)) (sym rest_is) ∙
+    ap (moved_on start) (at_line line rest seg none split) ∙
+    ap (λ v. moved_on start (cond v (Some (length seg))
+    (moved_on (length seg + 1) (http_end [] (drop (length seg + 1) rest))))) http
 
 pub end_found : (first line bytes rest seg : List ℕ) (start : ℕ) →
-    http_end first bytes ≡ later start (http_end line (drop start bytes)) → rest ≡ drop start bytes → HasNoLf seg →
+    http_end first bytes ≡ moved_on start (http_end line (drop start bytes)) → rest ≡ drop start bytes → HasNoLf seg →
     rest ≡ seg ++ 10 ∷ drop (length seg + 1) rest → is_of_http (line ++ seg) ≡ true →
     Some (start + length seg) ≡ http_end first bytes
 end_found first line bytes rest seg start said rest_is none split http =
@@ -88,15 +90,16 @@ behind bytes rest start n rest_is =
     ap (drop (n + 1)) rest_is ∙ drop-drop (n + 1) start bytes ∙ ap (λ m. drop m bytes) far
 
 pub end_later : (first line bytes rest seg : List ℕ) (start : ℕ) →
-    http_end first bytes ≡ later start (http_end line (drop start bytes)) → rest ≡ drop start bytes → HasNoLf seg →
+    http_end first bytes ≡ moved_on start (http_end line (drop start bytes)) → rest ≡ drop start bytes → HasNoLf seg →
     rest ≡ seg ++ 10 ∷ drop (length seg + 1) rest → is_of_http (line ++ seg) ≡ false → http_end first bytes ≡
-    later ((start + length seg) + 1) (http_end [] (drop ((start + length seg) + 1) bytes))
+    moved_on ((start + length seg) + 1) (http_end [] (drop ((start + length seg) + 1) bytes))
 end_later first line bytes rest seg start said rest_is none split http =
     let far : start + (length seg + 1) ≡ (start + length seg) + 1 = omega arith in
     next_line first line bytes rest seg start false said rest_is none split http ∙
-    later-later start (length seg + 1) (http_end [] (drop (length seg + 1) rest)) ∙
-    ap (λ m. later m (http_end [] (drop (length seg + 1) rest))) far ∙
-    ap (λ (l : List ℕ). later ((start + length seg) + 1) (http_end [] l)) (behind bytes rest start (length seg) rest_is)
+    moved_on-moved_on start (length seg + 1) (http_end [] (drop (length seg + 1) rest)) ∙
+    ap (λ m. moved_on m (http_end [] (drop (length seg + 1) rest))) far ∙
+    ap (λ (l : List ℕ). moved_on ((start + length seg) + 1) (http_end [] l))
+    (behind bytes rest start (length seg) rest_is)
 
 pub line_later : (first line bytes rest seg : List ℕ) (start : ℕ) →
     line_behind first bytes ≡ line_behind line (drop start bytes) → rest ≡ drop start bytes → HasNoLf seg →
@@ -107,11 +110,11 @@ line_later first line bytes rest seg start said rest_is none split =
     ap (line_behind []) (behind bytes rest start (length seg) rest_is)
 
 pub none_found : (first line bytes rest : List ℕ) (start : ℕ) →
-    http_end first bytes ≡ later start (http_end line (drop start bytes)) → rest ≡ drop start bytes → HasNoLf rest →
+    http_end first bytes ≡ moved_on start (http_end line (drop start bytes)) → rest ≡ drop start bytes → HasNoLf rest →
     None ≡ http_end first bytes
 none_found first line bytes rest start said rest_is none =
-    sym (said ∙ ap (λ (l : List ℕ). later start (http_end line l)) (sym rest_is) ∙
-    ap (later start) (http_end-open line rest none))
+    sym (said ∙ ap (λ (l : List ℕ). moved_on start (http_end line l)) (sym rest_is) ∙
+    ap (moved_on start) (http_end-open line rest none))
 
 pub line_left : (first line bytes rest : List ℕ) (start : ℕ) →
     line_behind first bytes ≡ line_behind line (drop start bytes) → rest ≡ drop start bytes → HasNoLf rest →

@@ -8,7 +8,7 @@ use Rattle.std.proofs.lemmas.Bool.{ne_eqb}
 use Rattle.std.proofs.lemmas.List.{take-append-drop, take-take, take_all, length-take-le}
 use Rattle.am_line_source.specs.SourceReads.{Took}
 use Rattle.am_serve_connections.specs.Http.{is_of_http}
-use Rattle.am_serve_connections.specs.OwnLines.{may_come_at, may_come, own_end, stage_behind, line_behind, begun}
+use Rattle.am_serve_connections.specs.OwnLines.{may_come_at, may_come, own_end, stage_behind, line_behind, line_begun}
 use Rattle.am_serve_connections.specs.OwnLines.{Passed}
 use Rattle.am_serve_connections.specs.declared.own_lines.OwnLines.{OwnLines}
 use Rattle.am_serve_connections.specs.declared.own_lines.Stage.{Stage}
@@ -92,8 +92,8 @@ behind_some stage (suc n) (byte ∷ bytes) more fits = refl
 -- all of a piece is passed on
 pub all_passed : {S : Type 0} (comes : S → List ℕ → Type 0) (old new : OwnLines S) (room len : ℕ) (into : List ℕ)
     (place : Option ℕ) → Took comes old.source (take len into) new.source → len ≤ length into → length into ≡ room →
-    (len ≡ 0 → ⊥) → place ≡ own_end old.stage (begun old) (take len into) → place ≡ None →
-    begun new ≡ take 4097 (line_behind (begun old) (take len into)) → new.stage ≡ Open →
+    (len ≡ 0 → ⊥) → place ≡ own_end old.stage (line_begun old) (take len into) → place ≡ None →
+    line_begun new ≡ take 4097 (line_behind (line_begun old) (take len into)) → new.stage ≡ Open →
     Passed comes old room (take len into) new
 all_passed comes old new room len into place took fits same more is none line unclosed = record {
   came = take len into;
@@ -101,7 +101,7 @@ all_passed comes old new room len into place took fits same more is none line un
   fits = omega (arith, length-take-le len into fits, fits, same);
   ended = λ nothing _. absurd (more (sym (length-take-le len into fits) ∙ ap length nothing));
   judged = subst (λ (p : Option ℕ). MatchOption p ((take len into ≡ take len into) ×
-      (begun new ≡ take 4097 (line_behind (begun old) (take len into))) ×
+      (line_begun new ≡ take 4097 (line_behind (line_begun old) (take len into))) ×
       (new.stage ≡ stage_behind old.stage (take len into)))
       (λ place. (0 < place) × (take len into ≡ take place (take len into)) × (new.stage ≡ Closed)))
       (sym none ∙ is) (refl, line, unclosed ∙ sym (behind_some old.stage len into more fits));
@@ -110,7 +110,8 @@ all_passed comes old new room len into place took fits same more is none line un
 -- a piece is passed on up to a place
 pub some_passed : {S : Type 0} (comes : S → List ℕ → Type 0) (old new : OwnLines S) (room len end : ℕ) (into : List ℕ)
     (place : Option ℕ) → Took comes old.source (take len into) new.source → len ≤ length into → length into ≡ room →
-    (len ≡ 0 → ⊥) → place ≡ own_end old.stage (begun old) (take len into) → place ≡ Some end → 0 < end → end ≤ len →
+    (len ≡ 0 → ⊥) → place ≡ own_end old.stage (line_begun old) (take len into) → place ≡ Some end → 0 < end →
+    end ≤ len →
     new.stage ≡ Closed → Passed comes old room (take end into) new
 some_passed comes old new room len end into place took fits same more is there some few closed = record {
   came = take len into;
@@ -118,7 +119,7 @@ some_passed comes old new room len end into place took fits same more is there s
   fits = omega (arith, length-take-le len into fits, fits, same);
   ended = λ nothing _. absurd (more (sym (length-take-le len into fits) ∙ ap length nothing));
   judged = subst (λ (p : Option ℕ). MatchOption p ((take end into ≡ take len into) ×
-      (begun new ≡ take 4097 (line_behind (begun old) (take len into))) ×
+      (line_begun new ≡ take 4097 (line_behind (line_begun old) (take len into))) ×
       (new.stage ≡ stage_behind old.stage (take len into)))
       (λ place. (0 < place) × (take end into ≡ take place (take len into)) × (new.stage ≡ Closed)))
       (sym there ∙ is) (some, sym (take-take end len into few), closed);
@@ -128,9 +129,10 @@ some_passed comes old new room len end into place took fits same more is there s
 pub none_passed : {S E : Type 0} (comes : S → List ℕ → Type 0) (result : Result ℕ E) (old mid new : OwnLines S)
     (room len : ℕ) (into : List ℕ) (is_full : Bool) → old.stage ≢ Closed → Took comes old.source (take len into)
     mid.source →
-    len ≡ 0 → length into ≡ room → is_full ≡ eqb (length into) 0 → mid.stage ≡ old.stage → begun mid ≡ begun old →
-    length (begun old) ≤ 4097 → IfOk result (λ n. n ≡ 0) →
-    OnOk result (is_full ≡ false → is_of_http (begun mid) ≡ false) →
+    len ≡ 0 → length into ≡ room → is_full ≡ eqb (length into) 0 → mid.stage ≡ old.stage →
+    line_begun mid ≡ line_begun old →
+    length (line_begun old) ≤ 4097 → IfOk result (λ n. n ≡ 0) →
+    OnOk result (is_full ≡ false → is_of_http (line_begun mid) ≡ false) →
     OnOk result (new ≡ mid) → IfOk result (λ n. Passed comes old room (take n into) new)
 none_passed comes (Err e) old mid new room len into is_full unclosed took none same full stage line few nothing ended
     is = tt
@@ -142,11 +144,12 @@ none_passed comes (Ok n) old mid new room len into is_full unclosed took none sa
       fits = omega arith;
       ended = λ _ room_there. ap is_of_http (sym line) ∙
           ended (full ∙ ne_eqb (length into) 0 (λ z. absurd (omega (arith, z, same, room_there))));
-      judged = subst (λ (p : Option ℕ). MatchOption p ((take n into ≡ []) × (begun new ≡ take 4097 (begun old)) ×
+      judged = subst (λ (p : Option ℕ). MatchOption p
+          ((take n into ≡ []) × (line_begun new ≡ take 4097 (line_begun old)) ×
           (new.stage ≡ old.stage)) (λ place. (0 < place) × (take n into ≡ take place []) × (new.stage ≡ Closed)))
-          (sym (goes_on old.stage (begun old) unclosed)) (
+          (sym (goes_on old.stage (line_begun old) unclosed)) (
             ap (λ k. take k into) nothing,
-            ap (λ (s : OwnLines _). begun s) is ∙ line ∙ sym (take_all 4097 (begun old) few),
+            ap (λ (s : OwnLines _). line_begun s) is ∙ line ∙ sym (take_all 4097 (line_begun old) few),
             ap (λ (s : OwnLines _). s.stage) is ∙ stage,
           );
     }

@@ -4,7 +4,7 @@ use Rattle.std.proofs.Common.{refl, sym, ap, append_assoc, append-nil}
 use Rattle.std.specs.Prelude.{option_to_list}
 use Rattle.am_serve_connections.specs.declared.line.Waiter.{Waiter}
 use Rattle.am_serve_connections.specs.declared.line.Holder.{Holder}
-use Rattle.am_serve_connections.specs.Turnstiles.{joined_by, next_of, left_of}
+use Rattle.am_serve_connections.specs.Turnstiles.{joined_by, next_waiter, waiting_after}
 use Rattle.am_serve_connections.specs.WaitingLaws.{Turn, Joins, GoesOn, Turns, no_turns, turns_after, turns_behind}
 use Rattle.am_serve_connections.specs.WaitingLaws.{GoOnInOrder}
 
@@ -16,7 +16,7 @@ joins waiting waiter =
     [ true ↦ refl | false ↦ sym (append-nil waiting) ]
 
 goes_on : (holder : Option Holder) (waiting : List Waiter) →
-    option_to_list (next_of holder waiting) ++ left_of holder waiting ≡ waiting
+    option_to_list (next_waiter holder waiting) ++ waiting_after holder waiting ≡ waiting
 goes_on (Some holder) waiting = refl
 goes_on None [] = refl
 goes_on None (first ∷ waiting) = refl
@@ -31,7 +31,7 @@ in_order (Joins waiter ∷ turns) t same =
     ap (λ (l : List Waiter). l ++ cond (ltb (length t.waiting) 512) (waiter ∷ []) []) same)
 in_order (GoesOn holder ∷ turns) t same =
     in_order turns (turns_after (GoesOn holder) t)
-    (append_assoc t.went (option_to_list (next_of holder t.waiting)) (left_of holder t.waiting) ∙
+    (append_assoc t.went (option_to_list (next_waiter holder t.waiting)) (waiting_after holder t.waiting) ∙
     ap (λ (l : List Waiter). t.went ++ l) (goes_on holder t.waiting) ∙ same)
 
 pub go_on_in_order : GoOnInOrder

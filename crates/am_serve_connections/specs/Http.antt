@@ -62,11 +62,11 @@ abbrev pub IsWord : List ℕ → Type 0
 IsWord word = (word ≢ []) × All (λ byte. is_ascii_whitespace byte ≡ false) word
 
 -- a request as browsers write it, before its LF
-abbrev pub request_of : List ℕ → List ℕ → List ℕ
-request_of method target = (method ++ 32 ∷ target) ++ (codes " HTTP/1.1" ++ 13 ∷ [])
+abbrev pub http_request : List ℕ → List ℕ → List ℕ
+http_request method target = (method ++ 32 ∷ target) ++ (codes " HTTP/1.1" ++ 13 ∷ [])
 
 -- such a request is seen to be one whatever its method and its target, unless it begins as those lines do
 abbrev pub RequestsAreSeen : Type 0
 RequestsAreSeen = (method target : List ℕ) → IsWord method → IsWord target →
-    list_any (starts_with nat_eq (request_of method target)) own_fronts ≡ false →
-    is_request_line (request_of method target) ≡ true
+    list_any (starts_with nat_eq (http_request method target)) own_fronts ≡ false →
+    is_request_line (http_request method target) ≡ true

@@ -9,16 +9,16 @@ use Rattle.am_serve_connections.specs.declared.own_lines.Stage.{Stage}
 use Rattle.am_serve_connections.specs.declared.own_lines.Stage.TheVariants.{First, Open, Closed}
 
 -- a place, so many bytes later
-abbrev pub later : ℕ → Option ℕ → Option ℕ
-later count None = None
-later count (Some place) = Some (count + place)
+abbrev pub moved_on : ℕ → Option ℕ → Option ℕ
+moved_on count None = None
+moved_on count (Some place) = Some (count + place)
 
 -- where bytes end a line of HTTP that go on with a line which has begun so
 abbrev pub http_end : List ℕ → List ℕ → Option ℕ
 http_end line [] = None
 http_end line (byte ∷ bytes) =
-    if byte == 10 then (if is_of_http line then Some 0 else later 1 (http_end [] bytes))
-    else later 1 (http_end (line ++ byte ∷ []) bytes)
+    if byte == 10 then (if is_of_http line then Some 0 else moved_on 1 (http_end [] bytes))
+    else moved_on 1 (http_end (line ++ byte ∷ []) bytes)
 
 -- how the line has begun that they leave open
 abbrev pub line_behind : List ℕ → List ℕ → List ℕ
@@ -39,8 +39,8 @@ own_end Open line bytes = http_end line bytes
 own_end Closed line bytes = Some 0
 
 -- how the line has begun that a connection has passed on in part, the first 4,097 bytes of it
-abbrev pub begun : {S : Type 0} → OwnLines S → List ℕ
-begun s = s.line.bytes.items
+abbrev pub line_begun : {S : Type 0} → OwnLines S → List ℕ
+line_begun s = s.line.bytes.items
 
 -- the bytes that may come are a front of the source's, and none once it is closed
 abbrev pub may_come_at : {S : Type 0} → (S → List ℕ → Type 0) → Stage → S → List ℕ → Type 0
@@ -63,19 +63,19 @@ pub record Passed {S : Type 0} (comes : S → List ℕ → Type 0) (old : OwnLin
   pub came : List ℕ
   pub took : Took comes old.source came new.source
   pub fits : length came ≤ room
-  pub ended : came ≡ [] → 0 < room → is_of_http (begun old) ≡ false
-  pub judged : MatchOption (own_end old.stage (begun old) came)
-      ((passed ≡ came) × (begun new ≡ take 4097 (line_behind (begun old) came)) ×
+  pub ended : came ≡ [] → 0 < room → is_of_http (line_begun old) ≡ false
+  pub judged : MatchOption (own_end old.stage (line_begun old) came)
+      ((passed ≡ came) × (line_begun new ≡ take 4097 (line_behind (line_begun old) came)) ×
       (new.stage ≡ stage_behind old.stage came))
       (λ place. (0 < place) × (passed ≡ take place came) × (new.stage ≡ Closed))
 
 -- what came has ceased to be lines of the protocol before anything of it could be passed on
 abbrev pub HasCeased : {S : Type 0} → (S → List ℕ → Type 0) → OwnLines S → OwnLines S → Type 0
 HasCeased comes old new = (came : List ℕ) × Took comes old.source came new.source ×
-    ((own_end old.stage (begun old) came ≡ Some 0) ⊎ ((came ≡ []) × (is_of_http (begun old) ≡ true)))
+    ((own_end old.stage (line_begun old) came ≡ Some 0) ⊎ ((came ≡ []) × (is_of_http (line_begun old) ≡ true)))
 
 -- Nothing is passed on: the source failed, and all is as it was, or the connection is closed since that has ceased.
 abbrev pub Refused : {S : Type 0} → (S → List ℕ → Type 0) → (S → ℕ) → OwnLines S → OwnLines S → Type 0
 Refused comes failures old new =
-    ((failures new.source ≡ failures old.source + 1) × (new.stage ≡ old.stage) × (begun new ≡ begun old))
+    ((failures new.source ≡ failures old.source + 1) × (new.stage ≡ old.stage) × (line_begun new ≡ line_begun old))
     ⊎ ((new.stage ≡ Closed) × HasCeased comes old new)

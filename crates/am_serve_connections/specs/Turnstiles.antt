@@ -17,14 +17,14 @@ is_holder None place = false
 is_holder (Some holder) place = holder.place == place
 
 -- the session that holds, where who stands at this place has to wait
-abbrev pub kept_by : Option Holder → ℕ → Option ℕ
-kept_by None place = None
-kept_by (Some holder) place = if holder.place == place then None else Some holder.session
+abbrev pub barred_by : Option Holder → ℕ → Option ℕ
+barred_by None place = None
+barred_by (Some holder) place = if holder.place == place then None else Some holder.session
 
 -- who holds where this one would, and its time is to be told: it, unless another does
-abbrev pub held_by : Option Holder → Holder → Holder
-held_by None new = new
-held_by (Some holder) new = if holder.place == new.place then new else holder
+abbrev pub holder_after : Option Holder → Holder → Holder
+holder_after None new = new
+holder_after (Some holder) new = if holder.place == new.place then new else holder
 
 -- who holds once it was told until when it may that stands at this place
 abbrev pub granted : Option Holder → ℕ → ℕ → Option Holder
@@ -48,14 +48,14 @@ held_at None now = None
 held_at (Some holder) now = if is_past holder.until now then None else Some holder
 
 -- who goes on next: while nobody holds, who has waited longest
-abbrev pub next_of : Option Holder → List Waiter → Option Waiter
-next_of None waiting = slice_get waiting 0
-next_of (Some holder) waiting = None
+abbrev pub next_waiter : Option Holder → List Waiter → Option Waiter
+next_waiter None waiting = slice_get waiting 0
+next_waiter (Some holder) waiting = None
 
 -- who waits then
-abbrev pub left_of : Option Holder → List Waiter → List Waiter
-left_of None waiting = drop 1 waiting
-left_of (Some holder) waiting = waiting
+abbrev pub waiting_after : Option Holder → List Waiter → List Waiter
+waiting_after None waiting = drop 1 waiting
+waiting_after (Some holder) waiting = waiting
 
 -- who waits where one more would: all that did, and it after them, unless 512 did
 abbrev pub joined_by : List Waiter → Waiter → List Waiter
@@ -80,6 +80,6 @@ nap_of (Some holder) now = nap_until holder.until now
 abbrev pub mark_of : ℕ → ℕ
 mark_of number = min 18446744073709551615 (number + 1)
 
-abbrev pub number_in : ℕ → Option ℕ
-number_in zero = None
-number_in (suc number) = Some number
+abbrev pub mark_number : ℕ → Option ℕ
+mark_number zero = None
+mark_number (suc number) = Some number

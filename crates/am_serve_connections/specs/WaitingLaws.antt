@@ -5,7 +5,7 @@ use Rattle.std.specs.declared.net.tcp.TcpStream.{TcpStream}
 use Rattle.am_serve_connections.specs.declared.waiting.Waiting.{Waiting}
 use Rattle.am_serve_connections.specs.declared.line.Holder.{Holder}
 use Rattle.am_serve_connections.specs.declared.line.Waiter.{Waiter}
-use Rattle.am_serve_connections.specs.Waits.{oldest_of, due_of, left_of, gone_of, kept_of}
+use Rattle.am_serve_connections.specs.Waits.{oldest_of, due_of, still_waiting, gone_of, kept_of}
 use Rattle.am_serve_connections.specs.Turnstiles as turnstile
 
 -- What happens at an acceptor: a connection comes; a seat comes free and waits there; a round ends, and those go that
@@ -54,7 +54,7 @@ acceptor_after (Comes waiting) acceptor = came_to acceptor.free waiting acceptor
 acceptor_after SeatFree acceptor = seated (oldest_of acceptor.line) acceptor
 acceptor_after (OneGoes round is_stopped) acceptor = record {
   free = acceptor.free;
-  line = left_of acceptor.line round is_stopped;
+  line = still_waiting acceptor.line round is_stopped;
   left = acceptor.left ++ map TurnedAway (option_to_list (due_of acceptor.line round is_stopped));
 }
 
@@ -102,8 +102,8 @@ turns_after (Joins waiter) t = record {
 }
 turns_after (GoesOn holder) t = record {
   joined = t.joined;
-  waiting = turnstile.left_of holder t.waiting;
-  went = t.went ++ option_to_list (turnstile.next_of holder t.waiting);
+  waiting = turnstile.waiting_after holder t.waiting;
+  went = t.went ++ option_to_list (turnstile.next_waiter holder t.waiting);
 }
 
 abbrev pub turns_behind : List Turn → Turns → Turns

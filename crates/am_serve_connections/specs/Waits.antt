@@ -5,8 +5,8 @@ use Rattle.std.specs.declared.net.tcp.TcpStream.{TcpStream}
 use Rattle.am_serve_connections.specs.declared.waiting.Waiting.{Waiting}
 
 -- whether a connection that came in one round waits no longer in another: after a stop, and after eight rounds
-abbrev pub is_due : ℕ → ℕ → Bool → Bool
-is_due since round is_stopped = is_stopped || nat_le 8 (round - since)
+abbrev pub waits_no_longer : ℕ → ℕ → Bool → Bool
+waits_no_longer since round is_stopped = is_stopped || nat_le 8 (round - since)
 
 -- who has waited longest
 abbrev pub oldest_of : List Waiting → Option TcpStream
@@ -15,12 +15,14 @@ oldest_of line = option_map (λ w. w.stream) (slice_get line 0)
 -- who goes next, of those that wait in a round: the one that has waited longest, where it is due
 abbrev pub due_of : List Waiting → ℕ → Bool → Option TcpStream
 due_of [] round is_stopped = None
-due_of (first ∷ others) round is_stopped = if is_due first.since round is_stopped then Some first.stream else None
+due_of (first ∷ others) round is_stopped =
+    if waits_no_longer first.since round is_stopped then Some first.stream else None
 
 -- who waits then
-abbrev pub left_of : List Waiting → ℕ → Bool → List Waiting
-left_of [] round is_stopped = []
-left_of (first ∷ others) round is_stopped = if is_due first.since round is_stopped then others else first ∷ others
+abbrev pub still_waiting : List Waiting → ℕ → Bool → List Waiting
+still_waiting [] round is_stopped = []
+still_waiting (first ∷ others) round is_stopped =
+    if waits_no_longer first.since round is_stopped then others else first ∷ others
 
 -- who goes where one more comes: of 4,096 that wait the one that has waited longest
 abbrev pub gone_of : List Waiting → Option TcpStream

@@ -1,7 +1,7 @@
 //! The connections that are open: which transaction each has, how long ago its last line came, and how it is cut.
 
 ghost use Rattle.std.specs.Prelude.{◌≡◌, Some, option_map, nat_eq, IfOk};
-ghost use Rattle.am_serve_connections.specs.Connections.{open_of};
+ghost use Rattle.am_serve_connections.specs.Connections.{open_tx_of};
 
 use crate::turnstile::{mark_of, number_in};
 use std::alloc::{AllocError, Global};
@@ -31,7 +31,7 @@ pub struct OpenTransaction {
 // What is told of a session, by what stands for its transaction, when its last line came and what time it is, both in
 // milliseconds.
 fn open_of(session: u64, mark: u64, heard_at: u64, now: u64) -> Option<OpenTransaction>
-    ensures { result ≡ open_of session mark heard_at now }
+    ensures { result ≡ open_tx_of session mark heard_at now }
 {
     let tx = number_in(mark)?;
     Some(OpenTransaction {

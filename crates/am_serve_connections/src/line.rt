@@ -2,9 +2,9 @@
 
 ghost use Rattle.std.specs.Prelude.{◌≡◌, ◌≤◌, [], Some, None, is_some, length, nat_lt, IfOk};
 ghost use Rattle.std.specs.VecDeque.{deque_capacity, deque_len};
-ghost use Rattle.am_serve_connections.specs.Turnstiles.{granted, held_at, held_by, is_holder, is_kept, joined_by};
-ghost use Rattle.am_serve_connections.specs.Turnstiles.{kept_by};
-ghost use Rattle.am_serve_connections.specs.Turnstiles.{left_of, nap_of, next_of, released, wait_of};
+ghost use Rattle.am_serve_connections.specs.Turnstiles.{granted, held_at, holder_after, is_holder, is_kept, joined_by};
+ghost use Rattle.am_serve_connections.specs.Turnstiles.{barred_by};
+ghost use Rattle.am_serve_connections.specs.Turnstiles.{waiting_after, nap_of, next_waiter, released, wait_of};
 
 use std::alloc::{AllocError, Global};
 use std::collections::VecDeque;
@@ -98,8 +98,8 @@ impl Line {
 
     /// The session is to hold, unless another does: then it is told which.
     pub(crate) fn hold(&mut self, place: usize, session: u64) -> Option<u64>
-        ensures kept { result ≡ kept_by self.old.holder place }
-        ensures holder { self.new.holder ≡ Some (held_by self.old.holder
+        ensures kept { result ≡ barred_by self.old.holder place }
+        ensures holder { self.new.holder ≡ Some (holder_after self.old.holder
             (record { place = place; session = session; until = None })) }
         ensures same { self.new.waiting ≡ self.old.waiting }
     {
@@ -176,8 +176,8 @@ impl Line {
 
     /// Who goes on: while nobody holds, who has waited longest, and waits no more.
     pub(crate) fn next(&mut self) -> Option<Waiter>
-        ensures next { result ≡ next_of self.old.holder self.old.waiting.items }
-        ensures left { self.new.waiting.items ≡ left_of self.old.holder self.old.waiting.items }
+        ensures next { result ≡ next_waiter self.old.holder self.old.waiting.items }
+        ensures left { self.new.waiting.items ≡ waiting_after self.old.holder self.old.waiting.items }
         ensures same { self.new.holder ≡ self.old.holder }
     {
         match self.holder {

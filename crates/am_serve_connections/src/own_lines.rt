@@ -5,8 +5,8 @@ ghost use Rattle.std.specs.Prelude.{IfOk, IfSome, IfNone, OnOk, OnErr, IsErr};
 ghost use Rattle.am_serve_connections.specs.Http.{is_of_http};
 ghost use Rattle.am_line_source.specs.Lines.{HasNoLf};
 ghost use Rattle.am_line_source.specs.SourceReads.{Took};
-ghost use Rattle.am_serve_connections.specs.OwnLines.{http_end, line_behind, begins_line, own_end, begun, may_come};
-ghost use Rattle.am_serve_connections.specs.OwnLines.{Passed, Refused};
+ghost use Rattle.am_serve_connections.specs.OwnLines.{http_end, line_behind, begins_line, own_end, line_begun};
+ghost use Rattle.am_serve_connections.specs.OwnLines.{may_come, Passed, Refused};
 ghost use Rattle.am_serve_connections.specs.declared.own_lines.Stage.TheVariants.{First, Closed};
 
 use crate::unended_line::UnendedLine;
@@ -95,7 +95,7 @@ impl<S: Source + Drop> OwnLines<S> {
     /// Memory was refused.
     pub fn new(alloc: Global, source: S) -> Result<OwnLines<S>, AllocError>
         ensures source { IfOk result (λ s. s.source ≡ source) }
-        ensures first { IfOk result (λ s. (s.stage ≡ First) × (begun s ≡ [])) }
+        ensures first { IfOk result (λ s. (s.stage ≡ First) × (line_begun s ≡ [])) }
         ensures failures { IfOk result (λ s. S.failures s.source + s.refused ≡ S.failures source) }
     {
         Ok(OwnLines {
@@ -112,7 +112,7 @@ impl<S: Source + Drop> OwnLines<S> {
         ensures err { IsErr result }
         ensures closed { self.new.stage ≡ Closed }
         ensures counted { self.new.refused ≡ self.old.refused + 1 }
-        ensures same { (self.new.source ≡ self.old.source) × (begun self.new ≡ begun self.old) }
+        ensures same { (self.new.source ≡ self.old.source) × (line_begun self.new ≡ line_begun self.old) }
     {
         self.stage = Stage::Closed;
         self.refused += 1;
@@ -157,9 +157,9 @@ impl<S: Source + Drop> OwnLines<S> {
     fn end(&mut self, is_full: bool) -> Result<usize, Failed>
         requires { S.failures self.old.source + self.old.refused < 2 ^ 63 }
         ensures none { IfOk result (λ n. n ≡ 0) }
-        ensures ended { OnOk result (is_full ≡ false → is_of_http (begun self.old) ≡ false) }
+        ensures ended { OnOk result (is_full ≡ false → is_of_http (line_begun self.old) ≡ false) }
         ensures ok { OnOk result (self.new ≡ self.old) }
-        ensures http { OnErr result (is_of_http (begun self.old) ≡ true) }
+        ensures http { OnErr result (is_of_http (line_begun self.old) ≡ true) }
         ensures closed { OnErr result (self.new.stage ≡ Closed) }
         ensures counted { OnErr result (self.new.refused ≡ self.old.refused + 1) }
         ensures same { OnErr result (self.new.source ≡ self.old.source) }
@@ -206,7 +206,7 @@ impl<S: Source + Drop> Source for OwnLines<S> {
         ensures kept { Took (λ s. may_come S.comes s) self.old [] self.new }
         ensures same { S.failures self.new.source + self.new.refused ≡
             S.failures self.old.source + self.old.refused }
-        ensures stage { (self.new.stage ≡ self.old.stage) × (begun self.new ≡ begun self.old) }
+        ensures stage { (self.new.stage ≡ self.old.stage) × (line_begun self.new ≡ line_begun self.old) }
     {
         match self.stage {
             Stage::Closed => true,

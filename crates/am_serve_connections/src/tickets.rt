@@ -2,7 +2,8 @@
 
 ghost use Rattle.std.specs.Prelude.{◌≡◌, ◌≤◌, ◌==◌, [], length, nat_lt, IfOk};
 ghost use Rattle.std.specs.VecDeque.{deque_capacity, deque_len};
-ghost use Rattle.am_serve_connections.specs.Tickets.{is_free, patience_end, rest_of, served_of, unserved_of, without};
+ghost use Rattle.am_serve_connections.specs.Tickets.{has_free, patience_end, time_left, served_of, unserved_of};
+ghost use Rattle.am_serve_connections.specs.Tickets.{without};
 ghost use Rattle.am_serve_connections.specs.Turnstiles.{joined_by};
 
 use crate::line::Waiter;
@@ -21,7 +22,7 @@ pub(crate) const PATIENCE_MICROS: u64 = 1_000_000;
 
 // Whether one more is free where so many are taken.
 fn is_free(taken: u64) -> bool
-    ensures { result ≡ is_free taken }
+    ensures { result ≡ has_free taken }
 {
     taken < MOST_TICKETS
 }
@@ -39,7 +40,7 @@ pub(crate) fn patience_end(is_held: bool, now: u64, end: u64) -> u64
 
 /// How long one waits on that gives up then. None once it is so late.
 pub(crate) fn rest_of(now: u64, end: u64) -> Option<u64>
-    ensures { result ≡ rest_of now end }
+    ensures { result ≡ time_left now end }
 {
     if end <= now { None } else { Some(end - now) }
 }

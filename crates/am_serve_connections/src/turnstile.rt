@@ -2,7 +2,7 @@
 
 ghost use Rattle.std.specs.Prelude.{◌≡◌, ◌≢◌, ◌<◌, ◌≤◌, IfOk};
 ghost use Rattle.am_serve_connections.specs.declared.turnstile.HoldReply.{HoldReply};
-ghost use Rattle.am_serve_connections.specs.Turnstiles.{mark_of, number_in};
+ghost use Rattle.am_serve_connections.specs.Turnstiles.{mark_of, mark_number};
 
 use crate::line::{Line, Wait as Waits, Waiter, wait_for};
 use crate::tickets::{PATIENCE_MICROS, TicketLine, Tickets, patience_end, rest_of};
@@ -34,7 +34,7 @@ pub(crate) fn mark_of(number: u64) -> u64
 }
 
 pub(crate) fn number_in(mark: u64) -> Option<u64>
-    ensures { result ≡ number_in mark }
+    ensures { result ≡ mark_number mark }
 {
     mark.checked_sub(1)
 }

@@ -2,7 +2,7 @@
 
 ghost use Rattle.std.specs.Prelude.{◌≡◌, ◌≤◌, ◌+◌, ◌++◌, ◌∷◌, [], drop, min, IfOk};
 ghost use Rattle.std.specs.VecDeque.{deque_capacity, deque_len};
-ghost use Rattle.am_serve_connections.specs.Waits.{due_of, gone_of, is_due, kept_of, left_of, oldest_of};
+ghost use Rattle.am_serve_connections.specs.Waits.{due_of, gone_of, waits_no_longer, kept_of, still_waiting, oldest_of};
 
 use std::alloc::{AllocError, Global};
 use std::collections::VecDeque;
@@ -27,7 +27,7 @@ pub(crate) struct Waiting {
 
 // Whether one that came in a round waits no longer in another.
 fn is_due(since: u64, round: u64, is_stopped: bool) -> bool
-    ensures { result ≡ is_due since round is_stopped }
+    ensures { result ≡ waits_no_longer since round is_stopped }
 {
     is_stopped || round.saturating_sub(since) >= MOST_ROUNDS
 }
@@ -83,7 +83,7 @@ impl WaitingRoom {
     /// rounds.
     pub(crate) fn next_due(&mut self, is_stopped: bool) -> Option<TcpStream>
         ensures due { result ≡ due_of self.old.line.items self.old.round is_stopped }
-        ensures left { self.new.line.items ≡ left_of self.old.line.items self.old.round is_stopped }
+        ensures left { self.new.line.items ≡ still_waiting self.old.line.items self.old.round is_stopped }
         ensures round { self.new.round ≡ self.old.round }
     {
         match self.line.front() {

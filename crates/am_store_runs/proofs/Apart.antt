@@ -17,8 +17,8 @@ use Rattle.am_record.specs.KeyFront.{key_front}
 use Rattle.am_record.specs.Plain.{Records}
 use Rattle.am_record.proofs.FirstRows.{Record}
 use Rattle.am_store_runs.specs.Cuts.{keys_of, times_among, records_of, AreRunsOf, NoneTwice, IsLeastTwice}
-use Rattle.am_store_runs.specs.Fronts.{times_of, is_among, fronts_in, with_fronts, AreShared}
-use Rattle.am_store_runs.specs.RecordPlaces.{IsSpot, IsOrder, AreOrders, named, runs_named}
+use Rattle.am_store_runs.specs.Fronts.{times_of, is_member, fronts_in, with_fronts, AreShared}
+use Rattle.am_store_runs.specs.RecordPlaces.{IsSpot, IsOrder, AreOrders, records_at, runs_named}
 use Rattle.am_store_runs.specs.declared.record_order.Spot.{Spot}
 use Rattle.am_store_runs.proofs.Pieces.{keys_of-append, runs_permuted}
 use Rattle.am_store_runs.proofs.Repeats.{one_where, times_of-cons, one_there}
@@ -47,16 +47,16 @@ times_front k (l ∷ ks) =
 
 -- ---- the keys with some fronts
 
-kept : (fronts : List ℕ) (l : OrderedKey) (ks : List OrderedKey) → is_among (key_front l) fronts ≡ true →
+kept : (fronts : List ℕ) (l : OrderedKey) (ks : List OrderedKey) → is_member (key_front l) fronts ≡ true →
     with_fronts fronts (l ∷ ks) ≡ l ∷ with_fronts fronts ks
 kept fronts l ks one = ap (λ b. cond b (l ∷ with_fronts fronts ks) (with_fronts fronts ks)) one
 
-left_out : (fronts : List ℕ) (l : OrderedKey) (ks : List OrderedKey) → is_among (key_front l) fronts ≡ false →
+left_out : (fronts : List ℕ) (l : OrderedKey) (ks : List OrderedKey) → is_member (key_front l) fronts ≡ false →
     with_fronts fronts (l ∷ ks) ≡ with_fronts fronts ks
 left_out fronts l ks none = ap (λ b. cond b (l ∷ with_fronts fronts ks) (with_fronts fronts ks)) none
 
 -- a key with one of the fronts stands among them as often as among all
-all_kept : (fronts : List ℕ) (k : OrderedKey) (ks : List OrderedKey) → is_among (key_front k) fronts ≡ true →
+all_kept : (fronts : List ℕ) (k : OrderedKey) (ks : List OrderedKey) → is_member (key_front k) fronts ≡ true →
     times_among k (with_fronts fronts ks) ≡ times_among k ks
 all_kept fronts k [] one = refl
 all_kept fronts k (l ∷ ks) one =
@@ -73,10 +73,10 @@ all_kept fronts k (l ∷ ks) one =
       ap (times_among k) (left_out fronts l ks none),
       times_among-cons k l ks,
       none_at k l (false_from_ne_true (eq_by_cmp key_cmp k l) (λ tie. true≢false (sym one
-          ∙ ap (λ q. is_among (key_front q) fronts) (key_eq-exact k l tie) ∙ none))),
+          ∙ ap (λ q. is_member (key_front q) fronts) (key_eq-exact k l tie) ∙ none))),
       all_kept fronts k ks one,
     ))
-    (cases_Bool (is_among (key_front l) fronts))
+    (cases_Bool (is_member (key_front l) fronts))
 
 none_added : (fronts : List ℕ) (k : OrderedKey) (ks : List OrderedKey) → times_among k (with_fronts fronts ks) ≤
     times_among k ks
@@ -96,7 +96,7 @@ none_added fronts k (l ∷ ks) =
       times_among-cons k l ks,
       none_added fronts k ks,
     ))
-    (cases_Bool (is_among (key_front l) fronts))
+    (cases_Bool (is_member (key_front l) fronts))
 
 module _ (ks : List OrderedKey) (shared : List ℕ) (are : AreShared (fronts_of ks) shared) where
   both_ways : (k : OrderedKey) → 2 ≤ times_among k ks → 2 ≤ times_among k (with_fronts shared ks)
@@ -124,7 +124,7 @@ module _ (ks : List OrderedKey) (shared : List ℕ) (are : AreShared (fronts_of 
 -- ---- the fronts and the keys, order by order
 
 fronts_named : (rs : Records) (ss : List Spot) → AllByRecursion (IsSpot rs) ss →
-    map (λ (s : Spot). s.front) ss ≡ fronts_of (keys_of (named rs ss))
+    map (λ (s : Spot). s.front) ss ≡ fronts_of (keys_of (records_at rs ss))
 fronts_named rs [] all = refl
 fronts_named rs (s ∷ ss) all = ap (λ n. n ∷ map (λ (t : Spot). t.front) ss) all.0.front ∙
     ap (λ ns. key_front (get_or rs s.place (key_least, [])).0 ∷ ns) (fronts_named rs ss all.1)
@@ -134,7 +134,7 @@ fronts_all : (rs : Records) (os : List (Vec Spot Global)) →
     fronts_in os ≡ fronts_of (keys_of (records_of (runs_named rs os)))
 fronts_all rs [] all = refl
 fronts_all rs (o ∷ os) all =
-    let run = named rs o.items in
+    let run = records_at rs o.items in
     let others = records_of (runs_named rs os) in
     ap (λ ns. ns ++ fronts_in os) (fronts_named rs o.items all.0.are.each)
     ∙ ap (λ ns. fronts_of (keys_of run) ++ ns) (fronts_all rs os all.1)
@@ -144,14 +144,14 @@ fronts_all rs (o ∷ os) all =
 -- the keys of the orders' records that have one of the fronts, one order after another
 abbrev pub keys_by_orders : Records → List ℕ → List (Vec Spot Global) → List OrderedKey
 keys_by_orders rs fronts os =
-    flat_map (λ (o : Vec Spot Global). with_fronts fronts (keys_of (named rs o.items))) os
+    flat_map (λ (o : Vec Spot Global). with_fronts fronts (keys_of (records_at rs o.items))) os
 
 pub keys_are : (rs : Records) (fronts : List ℕ) (os : List (Vec Spot Global)) →
     keys_by_orders rs fronts os ≡ with_fronts fronts (keys_of (records_of (runs_named rs os)))
 keys_are rs fronts [] = refl
 keys_are rs fronts (o ∷ os) =
-    let test : OrderedKey → Bool = λ k. is_among (key_front k) fronts in
-    let run = named rs o.items in
+    let test : OrderedKey → Bool = λ k. is_member (key_front k) fronts in
+    let run = records_at rs o.items in
     let others = records_of (runs_named rs os) in
     ap (λ ks. with_fronts fronts (keys_of run) ++ ks) (keys_are rs fronts os)
     ∙ sym (filter-append test (keys_of run) (keys_of others))
@@ -190,7 +190,7 @@ apart_in_orders rs os [] orders runs are none =
 
 -- whether a number was found among those that rise
 pub search_tells : (ns : List ℕ) (n : ℕ) (found : Result ℕ ℕ) → AllPairs ◌<◌ ns →
-    IsBinarySearchResult (λ m. nat_cmp m n) ns found → is_ok found ≡ is_among n ns
+    IsBinarySearchResult (λ m. nat_cmp m n) ns found → is_ok found ≡ is_member n ns
 search_tells ns n found rising h = by_cases found (searched ns n found h climbs)
   where
     climbs : (i j : ℕ) → i ≤ j → j < length ns → get_or ns i 0 ≤ get_or ns j 0
@@ -208,7 +208,7 @@ search_tells ns n found rising h = by_cases found (searched ns n found h climbs)
 
     by_cases : (r : Result ℕ ℕ) →
         MatchResult r (λ i. (i < length ns) × (get_or ns i 0 ≡ n)) (λ i. (i ≤ length ns) × ((k : ℕ) → k < i →
-        get_or ns k 0 < n) × ((k : ℕ) → i ≤ k → k < length ns → n < get_or ns k 0)) → is_ok r ≡ is_among n ns
+        get_or ns k 0 < n) × ((k : ℕ) → i ≤ k → k < length ns → n < get_or ns k 0)) → is_ok r ≡ is_member n ns
     by_cases (Ok i) at = sym (list_any_at (λ m. nat_eq n m) ns i 0 at.0 (eq-eqb n (get_or ns i 0) (sym at.1)))
     by_cases (Err i) at = sym (list_any_none (λ m. nat_eq n m) ns (λ k d less. false_from_ne_true
         (nat_eq n (get_or ns k d)) (λ e. apart i k (at.1 k) (λ high. at.2 k high less)

@@ -16,7 +16,7 @@ use Rattle.am_record.proofs.Lists.{AllByRecursion-map, AllByRecursion-append}
 use Rattle.am_record.proofs.Lists.{AllByRecursion-take, AllByRecursion-drop}
 use Rattle.am_record.proofs.RisingRecords.{Below, sorted_parts, sorted_from, run_sorted, sorted_run}
 use Rattle.am_store_runs.specs.Cuts.{IsPieceFault}
-use Rattle.am_store_runs.specs.RecordPlaces.{IsSpot, AreSpots, IsOrder, IsGroupAdded, named}
+use Rattle.am_store_runs.specs.RecordPlaces.{IsSpot, AreSpots, IsOrder, IsGroupAdded, records_at}
 use Rattle.am_store_runs.specs.declared.fault.LoadFault.{LoadFault}
 use Rattle.am_store_runs.specs.declared.record_order.Spot.{Spot}
 use Rattle.am_store_runs.proofs.Groups.{Climbs, alike, climbs_from, climbs_drop, group_alike, above_group, from_first}
@@ -35,7 +35,7 @@ pub record IsSettling (rs : Records) (spots done left : List Spot) : Type 0 wher
   pub are : AreSpots rs done
   pub others : AreSpots rs left
   pub same : IsPermutation spots (done ++ left)
-  pub rising : is_sorted key_cmp (named rs done) ≡ true
+  pub rising : is_sorted key_cmp (records_at rs done) ≡ true
   pub climbs : Climbs front left
   pub below : AllByRecursion (LiesBelow left) done
 
@@ -50,27 +50,27 @@ settling_begins rs spots are climbs = record {
   below = tt;
 }
 
-named-append : (rs : Records) (ss ts : List Spot) → named rs (ss ++ ts) ≡ named rs ss ++ named rs ts
-named-append rs ss ts = map-append (λ (s : Spot). get_or rs s.place (key_least, [])) ss ts
+records_at-append : (rs : Records) (ss ts : List Spot) → records_at rs (ss ++ ts) ≡ records_at rs ss ++ records_at rs ts
+records_at-append rs ss ts = map-append (λ (s : Spot). get_or rs s.place (key_least, [])) ss ts
 
 module _ (follow : (a b : OrderedKey) → key_front a < key_front b → key_cmp a b ≡ Less) (rs : Records) where
   below_named : (s : Spot) (ts : List Spot) → IsSpot rs s → AllByRecursion (IsSpot rs) ts → LiesBelow ts s →
-      Below (get_or rs s.place (key_least, [])).0 (named rs ts)
+      Below (get_or rs s.place (key_least, [])).0 (records_at rs ts)
   below_named s [] is are below = tt
   below_named s (t ∷ ts) is are below =
       (lower follow rs s t is are.0 below.0, below_named s ts is are.1 below.1)
 
   -- spots that rise, and after them others with higher fronts that do
   sorted_both : (ss ts : List Spot) → AllByRecursion (IsSpot rs) ss → AllByRecursion (IsSpot rs) ts →
-      is_sorted key_cmp (named rs ss) ≡ true → is_sorted key_cmp (named rs ts) ≡ true →
-      AllByRecursion (LiesBelow ts) ss → is_sorted key_cmp (named rs (ss ++ ts)) ≡ true
+      is_sorted key_cmp (records_at rs ss) ≡ true → is_sorted key_cmp (records_at rs ts) ≡ true →
+      AllByRecursion (LiesBelow ts) ss → is_sorted key_cmp (records_at rs (ss ++ ts)) ≡ true
   sorted_both [] ts are others rising then below = then
   sorted_both (s ∷ ss) ts are others rising then below =
       let r : Record = get_or rs s.place (key_least, []) in
-      let parts = sorted_parts r (named rs ss) rising in
-      sorted_from r (named rs (ss ++ ts))
-      (subst (Below r.0) (sym (named-append rs ss ts))
-      (AllByRecursion-append (λ (q : Record). key_cmp r.0 q.0 ≡ Less) (named rs ss) (named rs ts) parts.0
+      let parts = sorted_parts r (records_at rs ss) rising in
+      sorted_from r (records_at rs (ss ++ ts))
+      (subst (Below r.0) (sym (records_at-append rs ss ts))
+      (AllByRecursion-append (λ (q : Record). key_cmp r.0 q.0 ≡ Less) (records_at rs ss) (records_at rs ts) parts.0
       (below_named s ts are.0 others below.0)))
       (sorted_both ss ts are.1 others parts.1 then below.1)
 
@@ -113,9 +113,9 @@ module _ (follow : (a b : OrderedKey) → key_front a < key_front b → key_cmp 
         same = IsPermutation-trans spots (done ++ left) (after ++ rest) h.same
             (subst (λ (l : List Spot). IsPermutation (done ++ left) l) (sym (append_assoc done order rest) ∙ all)
             (subst (λ (l : List Spot). IsPermutation l (done ++ (order ++ rest))) (sym split) moved));
-        rising = ap (λ (l : List Spot). is_sorted key_cmp (named rs l)) added.all
+        rising = ap (λ (l : List Spot). is_sorted key_cmp (records_at rs l)) added.all
             ∙ sorted_both done order h.are.each added.is.are.each h.rising
-            (run_sorted (named rs order) added.is.rising) below_order;
+            (run_sorted (records_at rs order) added.is.rising) below_order;
         climbs = climbs_drop front k left h.climbs;
         below = subst (AllByRecursion (LiesBelow rest)) (sym added.all)
             (AllByRecursion-append (LiesBelow rest) done order below_rest group_below);
@@ -131,22 +131,23 @@ pub settled_order : {rs : Records} {spots done : List Spot} (left : List Spot) �
     length left < 1 → 0 < length spots → IsOrder rs done
 settled_order {rs} {spots} {done} left h none some = record {
   are = h.are;
-  rising = sorted_run (named rs done)
+  rising = sorted_run (records_at rs done)
       (omega (arith, some, named_long rs done, length_permutation spots done (settled_same left h none))) h.rising;
 }
 
 -- ---- what keeps a group from being put in order
 
 pub fault_of_group : {rs : Records} {spots done left : List Spot} (k : ℕ) (fault : LoadFault) →
-    IsSettling rs spots done left → IsPieceFault (named rs (take k left)) fault → IsPieceFault (named rs spots) fault
+    IsSettling rs spots done left → IsPieceFault (records_at rs (take k left)) fault →
+    IsPieceFault (records_at rs spots) fault
 fault_of_group {rs} {spots} {done} {left} k fault h is =
     let group = take k left in
     let rest = drop k left in
-    let split : named rs (done ++ left) ≡ named rs done ++ (named rs group ++ named rs rest) =
-    named-append rs done left
-    ∙ ap (λ (l : List Spot). named rs done ++ named rs l) (sym (take-append-drop k left))
-    ∙ ap (λ (l : Records). named rs done ++ l) (named-append rs group rest) in
-    fault_permuted (named rs spots) (named rs (done ++ left)) fault
+    let split : records_at rs (done ++ left) ≡ records_at rs done ++ (records_at rs group ++ records_at rs rest) =
+    records_at-append rs done left
+    ∙ ap (λ (l : List Spot). records_at rs done ++ records_at rs l) (sym (take-append-drop k left))
+    ∙ ap (λ (l : Records). records_at rs done ++ l) (records_at-append rs group rest) in
+    fault_permuted (records_at rs spots) (records_at rs (done ++ left)) fault
     (IsPermutation-map (λ (s : Spot). get_or rs s.place (key_least, [])) spots (done ++ left) h.same)
     (subst (λ (l : Records). IsPieceFault l fault) (sym split)
-    (fault_of_part (named rs done) (named rs group) (named rs rest) fault is))
+    (fault_of_part (records_at rs done) (records_at rs group) (records_at rs rest) fault is))

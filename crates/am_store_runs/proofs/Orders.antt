@@ -20,7 +20,8 @@ use Rattle.am_record.proofs.FirstRows.{Record}
 use Rattle.am_record.proofs.Lists.{AllByRecursion-push}
 use Rattle.am_record.proofs.RisingRecords.{sorted_run, sorted_rises}
 use Rattle.am_store_runs.specs.Cuts.{keys_of, NoneTwice, IsLeastTwice}
-use Rattle.am_store_runs.specs.RecordPlaces.{IsSpot, AreSpots, IsOrder, IsByKey, AreOrders, keyed_by, keys_among, named}
+use Rattle.am_store_runs.specs.RecordPlaces.{IsSpot, AreSpots, IsOrder, IsByKey, AreOrders, keyed_by, keys_among}
+use Rattle.am_store_runs.specs.RecordPlaces.{records_at}
 use Rattle.am_store_runs.specs.RecordPlaces.{runs_named}
 use Rattle.am_store_runs.specs.RecordPlaces.{spots_among}
 use Rattle.am_store_runs.specs.declared.record_order.Spot.{Spot}
@@ -37,7 +38,7 @@ fronts_rise : (ss : List Spot) (b : Bool) →
 fronts_rise ss true h e = λ k d less. ltb-true _ _ (sym (rw add-one at (h k d (omega arith))))
 fronts_rise ss false h e = cc
 
-pub named_long : (rs : Records) (ss : List Spot) → length (named rs ss) ≡ length ss
+pub named_long : (rs : Records) (ss : List Spot) → length (records_at rs ss) ≡ length ss
 named_long rs ss = length-map ss (λ (s : Spot). get_or rs s.place (key_least, []))
 
 module _ (follow : (a b : OrderedKey) → key_front a < key_front b → key_cmp a b ≡ Less) (rs : Records) where
@@ -46,7 +47,8 @@ module _ (follow : (a b : OrderedKey) → key_front a < key_front b → key_cmp 
   lower s t is it less = follow _ _ (omega (arith, is.front, it.front, less))
 
   named_rise : (ss : List Spot) → AllByRecursion (IsSpot rs) ss → FrontsRise ss → (k : ℕ) (d : Record) →
-      suc k < length (named rs ss) → key_cmp (get_or (named rs ss) k d).0 (get_or (named rs ss) (suc k) d).0 ≡ Less
+      suc k < length (records_at rs ss) → key_cmp (get_or (records_at rs ss) k d).0
+      (get_or (records_at rs ss) (suc k) d).0 ≡ Less
   named_rise [] all h k d less = absurd (omega arith)
   named_rise (s ∷ []) all h k d less = absurd (omega arith)
   named_rise (s ∷ t ∷ ss) all h zero d less = lower s t all.0 all.1.0 (h 0 s (omega arith))
@@ -57,8 +59,8 @@ module _ (follow : (a b : OrderedKey) → key_front a < key_front b → key_cmp 
       IsAllAdjacentAnswer (λ (x : Spot) (y : Spot) r. r ≡ nat_lt x.front y.front) ss b → b ≡ true → IsOrder rs ss
   order_by_front ss b are some h e = record {
     are = are;
-    rising = sorted_run (named rs ss) (omega (arith, some, named_long rs ss))
-        (sorted_rises (named rs ss) (named_rise ss are.each (fronts_rise ss b h e)));
+    rising = sorted_run (records_at rs ss) (omega (arith, some, named_long rs ss))
+        (sorted_rises (records_at rs ss) (named_rise ss are.each (fronts_rise ss b h e)));
   }
 
 -- ---- spots that were sorted by the keys of their records
@@ -75,7 +77,7 @@ spots_keyed rs [] = refl
 spots_keyed rs (s ∷ ss) = ap (λ l. s ∷ l) (spots_keyed rs ss)
 
 keys_keyed : (rs : Records) (ps : List (OrderedKey × Spot)) → AllByRecursion (IsKeyed rs) ps →
-    keys_among ps ≡ keys_of (named rs (spots_among ps))
+    keys_among ps ≡ keys_of (records_at rs (spots_among ps))
 keys_keyed rs [] all = refl
 keys_keyed rs (p ∷ ps) all = ap (λ k. k ∷ keys_among ps) all.0 ∙
     ap (λ ks. (get_or rs p.1.place (key_least, [])).0 ∷ ks) (keys_keyed rs ps all.1)
@@ -101,29 +103,29 @@ module _ (rs : Records) (ss : List Spot) (ps : List (OrderedKey × Spot)) (by : 
         length-map ps (λ (p : OrderedKey × Spot). p.0),
       ))
 
-  keys_are : keys ≡ keys_of (named rs (spots_among ps))
+  keys_are : keys ≡ keys_of (records_at rs (spots_among ps))
   keys_are = are ∙ keys_keyed rs ps
       (recursion_from_All (IsKeyed rs) ps (All-permutation (IsKeyed rs) (keyed_by rs ss) ps by.same
       (All-from_recursion (IsKeyed rs) (keyed_by rs ss) (all_keyed rs ss))))
 
-  records_moved : IsPermutation (named rs ss) (named rs (spots_among ps))
+  records_moved : IsPermutation (records_at rs ss) (records_at rs (spots_among ps))
   records_moved = IsPermutation-map (λ (s : Spot). get_or rs s.place (key_least, [])) ss (spots_among ps)
       (spots_moved rs ss ps by)
 
   pub found_of : (found : Option OrderedKey) → MatchOption found (NoneTwice keys) (IsLeastTwice keys) →
-      MatchOption found (NoneTwice (keys_of (named rs ss))) (IsLeastTwice (keys_of (named rs ss)))
+      MatchOption found (NoneTwice (keys_of (records_at rs ss))) (IsLeastTwice (keys_of (records_at rs ss)))
   found_of found h =
-      found_permuted found (keys_of (named rs ss)) (keys_of (named rs (spots_among ps)))
-      (IsPermutation-map (λ (r : Record). r.0) (named rs ss) (named rs (spots_among ps)) records_moved)
+      found_permuted found (keys_of (records_at rs ss)) (keys_of (records_at rs (spots_among ps)))
+      (IsPermutation-map (λ (r : Record). r.0) (records_at rs ss) (records_at rs (spots_among ps)) records_moved)
       (subst (λ ks. MatchOption found (NoneTwice ks) (IsLeastTwice ks)) keys_are h)
 
   pub order_by_key : AreSpots rs ss → 0 < length ss → NoneTwice keys → IsOrder rs (spots_among ps)
   order_by_key spots some once =
-      let run = named rs (spots_among ps) in
+      let run = records_at rs (spots_among ps) in
       record {
         are = spots_permuted rs ss (spots_among ps) (spots_moved rs ss ps by) spots;
         rising = sorted_run run
-            (omega (arith, some, length_permutation (named rs ss) run records_moved, named_long rs ss))
+            (omega (arith, some, length_permutation (records_at rs ss) run records_moved, named_long rs ss))
             (rising_of run (subst Ascends (sym are ∙ keys_are) (ascends_by (λ (p : OrderedKey × Spot). p.0) ps
             by.sorted)) (subst NoneTwice keys_are once));
       }
@@ -137,14 +139,14 @@ orders_more rs os o are is = record {
 }
 
 pub runs_more : (rs : Records) (os : List (Vec Spot Global)) (o : Vec Spot Global) →
-    runs_named rs (os ++ o ∷ []) ≡ runs_named rs os ++ named rs o.items ∷ []
-runs_more rs os o = map-append (λ (p : Vec Spot Global). named rs p.items) os (o ∷ [])
+    runs_named rs (os ++ o ∷ []) ≡ runs_named rs os ++ records_at rs o.items ∷ []
+runs_more rs os o = map-append (λ (p : Vec Spot Global). records_at rs p.items) os (o ∷ [])
 
 pub runs_long : (rs : Records) (os : List (Vec Spot Global)) → length (runs_named rs os) ≡ length os
-runs_long rs os = length-map os (λ (p : Vec Spot Global). named rs p.items)
+runs_long rs os = length-map os (λ (p : Vec Spot Global). records_at rs p.items)
 
 pub next_run : (rs : Records) (os : List (Vec Spot Global)) (n : ℕ) (o : Vec Spot Global) → n < length os →
-    o ≡ get_or os n o → slice_get (drop n (runs_named rs os)) 0 ≡ Some (named rs o.items)
+    o ≡ get_or os n o → slice_get (drop n (runs_named rs os)) 0 ≡ Some (records_at rs o.items)
 next_run rs [] n o less is = absurd (omega arith)
-next_run rs (p ∷ os) zero o less is = ap (λ (q : Vec Spot Global). Some (named rs q.items)) (sym is)
+next_run rs (p ∷ os) zero o less is = ap (λ (q : Vec Spot Global). Some (records_at rs q.items)) (sym is)
 next_run rs (p ∷ os) (suc n) o less is = next_run rs os n o (omega arith) is

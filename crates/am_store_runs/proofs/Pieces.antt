@@ -10,7 +10,7 @@ use Rattle.std.proofs.lemmas.List.Sorted.{IsPermutation-refl, IsPermutation-appe
 use Rattle.am_record.specs.Plain.{Records}
 use Rattle.am_store_runs.specs.declared.fault.LoadFault.{LoadFault}
 use Rattle.am_store_runs.specs.declared.fault.LoadFault.TheVariants.{NotRising, BadSize, Twice, NoMemory}
-use Rattle.am_store_runs.specs.Cuts.{keys_of, records_of, times_among, NoneTwice, IsRunOf, AreRunsOf}
+use Rattle.am_store_runs.specs.Cuts.{keys_of, records_of, times_among, NoneTwice, IsSortedPiece, AreRunsOf}
 use Rattle.am_store_runs.specs.Cuts.{IsPieceFault, IsTwiceFault}
 use Rattle.am_store_runs.specs.RecordPlaces.{piece}
 use Rattle.am_record.proofs.FirstRows.{Record}
@@ -51,7 +51,7 @@ pub record IsCutting (n : ℕ) (all : Records) (runs : List Records) (rest : Rec
 
 pub cut_piece : {n : ℕ} {all : Records} {runs : List Records} {rest : Records} (piece rest' run : Records) →
     rest ≡ piece ++ rest' → length piece ≡ min n (length rest)
-    → IsCutting n all runs rest → IsRunOf piece run → IsCutting n all (runs ++ run ∷ []) rest'
+    → IsCutting n all runs rest → IsSortedPiece piece run → IsCutting n all (runs ++ run ∷ []) rest'
 cut_piece {n} {all} {runs} {rest} piece rest' run split long h is = record {
   front = h.front ++ piece;
   split = h.split ∙ ap (λ (l : Records). h.front ++ l) split ∙ sym (append_assoc h.front piece rest');
@@ -61,7 +61,7 @@ cut_piece {n} {all} {runs} {rest} piece rest' run split long h is = record {
       let first : take n rest ≡ piece = ap (take n) split ∙ take_piece n piece rest' long' in
       let others : drop n rest ≡ rest' = ap (drop n) split ∙ drop_piece n piece rest' long' in
       let whole : AreRunsOf n rest (run ∷ later) = (
-        subst (λ (p : Records). IsRunOf p run) (sym first) is,
+        subst (λ (p : Records). IsSortedPiece p run) (sym first) is,
         subst (λ (l : Records). AreRunsOf n l later) (sym others) are,
       ) in
       subst (λ (l : List Records). AreRunsOf n all l) (sym (append_assoc runs (run ∷ []) later))
@@ -84,7 +84,8 @@ piece_behind rs from more =
 
 -- the next piece is cut
 pub cut_next : {n : ℕ} {all : Records} {runs : List Records} (from more : ℕ) (run : Records) → from ≤ length all →
-    more ≡ min n (length all - from) → IsCutting n all runs (drop from all) → IsRunOf (piece all from (from + more))
+    more ≡ min n (length all - from) → IsCutting n all runs (drop from all) →
+    IsSortedPiece (piece all from (from + more))
     run →
     IsCutting n all (runs ++ run ∷ []) (drop (from + more) all)
 cut_next {n} {all} {runs} from more run within size h is =

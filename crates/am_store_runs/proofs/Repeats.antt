@@ -11,7 +11,7 @@ use Rattle.std.proofs.lemmas.List.Quantifiers.{all_pairs_push}
 use Rattle.std.specs.List.{AllByRecursion, AllPairs}
 use Rattle.std.specs.List.Sorted.{IsPermutation, IsNonDecreasing}
 use Rattle.am_record.proofs.Lists.{AllByRecursion-map, AllByRecursion-append, AllByRecursion-drop, AllByRecursion-at}
-use Rattle.am_store_runs.specs.Fronts.{times_of, is_among, AreShared}
+use Rattle.am_store_runs.specs.Fronts.{times_of, is_member, AreShared}
 use Rattle.am_store_runs.proofs.Groups.{Climbs, alike, climbs_from, climbs_drop, group_alike, above_group, from_first}
 
 -- ---- how often a number stands
@@ -54,8 +54,8 @@ pub record IsSharing (all left shared : List ℕ) : Type 0 where
   pub climbs : Climbs (λ n. n) left
   pub rising : AllPairs ◌<◌ shared
   pub below : AllByRecursion (λ s. AllByRecursion (λ l. s < l) left) shared
-  pub found : (n : ℕ) → is_among n shared ≡ true → 2 ≤ times_of n all
-  pub here : (n : ℕ) → 2 ≤ times_of n all → (is_among n shared ≡ true) ⊎ (2 ≤ times_of n left)
+  pub found : (n : ℕ) → is_member n shared ≡ true → 2 ≤ times_of n all
+  pub here : (n : ℕ) → 2 ≤ times_of n all → (is_member n shared ≡ true) ⊎ (2 ≤ times_of n left)
   pub there : (n : ℕ) → times_of n left ≤ times_of n all
 
 pub sharing_begins : (all : List ℕ) → IsNonDecreasing all → IsSharing all all []
@@ -164,19 +164,19 @@ module _ {all left shared : List ℕ} (n : ℕ) (h : IsSharing all left shared) 
         (λ same. omega (arith, more, own, h.there m, ap (λ l. times_of l left) (eqb-true m n same)))
         (λ none. absurd (true≢false (sym none)))
         (or_cases (nat_eq m n) false now))
-        (or_cases (is_among m shared) (is_among m (n ∷ [])) (sym (list_any-append (λ l. nat_eq m l) shared (n ∷ [])) ∙
+        (or_cases (is_member m shared) (is_member m (n ∷ [])) (sym (list_any-append (λ l. nat_eq m l) shared (n ∷ [])) ∙
         one));
     here = λ m two.
         ⊎_elim
-        (λ same. inl (is_found m (or_right (is_among m shared) (is_among m (n ∷ []))
+        (λ same. inl (is_found m (or_right (is_member m shared) (is_member m (n ∷ []))
         (or_left (nat_eq m n) false same))))
         (λ other. ⊎_elim
-        (λ before. inl (is_found m (or_left (is_among m shared) (is_among m (n ∷ [])) before)))
+        (λ before. inl (is_found m (or_left (is_member m shared) (is_member m (n ∷ [])) before)))
         (λ later. inr (omega (arith, later, others m (λ e. true≢false (sym (eq-eqb m n e) ∙ other)))))
         (h.here m two))
         (cases_Bool (nat_eq m n));
     there = rest_fewer;
   }
     where
-      is_found : (m : ℕ) → (is_among m shared || is_among m (n ∷ [])) ≡ true → is_among m (shared ++ n ∷ []) ≡ true
+      is_found : (m : ℕ) → (is_member m shared || is_member m (n ∷ [])) ≡ true → is_member m (shared ++ n ∷ []) ≡ true
       is_found m one = list_any-append (λ l. nat_eq m l) shared (n ∷ []) ∙ one

@@ -9,7 +9,7 @@ use Rattle.std.proofs.lemmas.List.Sorted.{All-permutation, IsPermutation-map}
 use Rattle.am_record.specs.OrderedKey.{key_least}
 use Rattle.am_record.specs.Plain.{Records}
 use Rattle.am_record.proofs.Lists.{AllByRecursion-push}
-use Rattle.am_store_runs.specs.RecordPlaces.{IsSpot, AreSpots, named, piece}
+use Rattle.am_store_runs.specs.RecordPlaces.{IsSpot, AreSpots, records_at, piece}
 use Rattle.am_store_runs.specs.declared.record_order.Spot.{Spot}
 
 pub all_permuted : (P : Spot → Type 0) (ss ts : List Spot) → IsPermutation ss ts → AllByRecursion P ss →
@@ -19,9 +19,9 @@ all_permuted P ss ts p h = recursion_from_All P ts (All-permutation P ss ts p (A
 pub spots_permuted : (rs : Records) (ss ts : List Spot) → IsPermutation ss ts → AreSpots rs ss → AreSpots rs ts
 spots_permuted rs ss ts p h = record { each = all_permuted (IsSpot rs) ss ts p h.each }
 
-pub named_permuted : (rs some : Records) (ss ts : List Spot) → IsPermutation ss ts → named rs ss ≡ some →
-    IsPermutation some (named rs ts)
-named_permuted rs some ss ts p all = subst (λ (l : Records). IsPermutation l (named rs ts)) all
+pub named_permuted : (rs some : Records) (ss ts : List Spot) → IsPermutation ss ts → records_at rs ss ≡ some →
+    IsPermutation some (records_at rs ts)
+named_permuted rs some ss ts p all = subst (λ (l : Records). IsPermutation l (records_at rs ts)) all
     (IsPermutation-map (λ (s : Spot). get_or rs s.place (key_least, [])) ss ts p)
 
 -- ---- the records from one place to another
@@ -42,7 +42,7 @@ piece_more rs from at order within =
 
 -- one record more is named
 pub named_more : (rs : Records) (ss : List Spot) (s : Spot) (from : ℕ) → from ≤ s.place → s.place < length rs →
-    named rs ss ≡ piece rs from s.place → named rs (ss ++ s ∷ []) ≡ piece rs from (s.place + 1)
+    records_at rs ss ≡ piece rs from s.place → records_at rs (ss ++ s ∷ []) ≡ piece rs from (s.place + 1)
 named_more rs ss s from order within are =
     map-append (λ (t : Spot). get_or rs t.place (key_least, [])) ss (s ∷ [])
     ∙ ap (λ (l : Records). l ++ get_or rs s.place (key_least, []) ∷ []) are

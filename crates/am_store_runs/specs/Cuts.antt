@@ -27,7 +27,7 @@ pub record IsLeastTwice (keys : List OrderedKey) (key : OrderedKey) : Type 0 whe
   pub least : (other : OrderedKey) → 2 ≤ times_among other keys → key_le key other ≡ true
 
 -- the records of the piece, all of them, by rising key
-pub record IsRunOf (piece run : Records) : Type 0 where
+pub record IsSortedPiece (piece run : Records) : Type 0 where
   pub rising : is_rising run ≡ true
   pub same : IsPermutation piece run
 
@@ -41,7 +41,7 @@ IsSortFault records BadSize = ⊥
 -- the first n records make the first run, the next n the second, and so on; the last run may have fewer
 abbrev pub AreRunsOf : ℕ → Records → List Records → Type 0
 AreRunsOf n records [] = records ≡ []
-AreRunsOf n records (run ∷ runs) = IsRunOf (take n records) run × AreRunsOf n (drop n records) runs
+AreRunsOf n records (run ∷ runs) = IsSortedPiece (take n records) run × AreRunsOf n (drop n records) runs
 
 -- the records of the runs, one run after another
 abbrev pub records_of : List Records → Records

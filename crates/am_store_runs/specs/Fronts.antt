@@ -11,13 +11,13 @@ abbrev pub times_of : ℕ → List ℕ → ℕ
 times_of n ns = count_by (λ m. nat_eq n m) ns
 
 -- whether the number stands among the numbers
-abbrev pub is_among : ℕ → List ℕ → Bool
-is_among n ns = list_any (λ m. nat_eq n m) ns
+abbrev pub is_member : ℕ → List ℕ → Bool
+is_member n ns = list_any (λ m. nat_eq n m) ns
 
 -- these are the numbers that stand twice or more among the numbers, each once and rising
 pub record AreShared (ns shared : List ℕ) : Type 0 where
   pub rising : AllPairs ◌<◌ shared
-  pub twice : (n : ℕ) → (is_among n shared ≡ true) ↔ (2 ≤ times_of n ns)
+  pub twice : (n : ℕ) → (is_member n shared ≡ true) ↔ (2 ≤ times_of n ns)
 
 -- the fronts of the orders' spots, one order after another
 abbrev pub fronts_in : List (Vec Spot Global) → List ℕ
@@ -25,4 +25,4 @@ fronts_in orders = flat_map (λ (o : Vec Spot Global). map (λ (s : Spot). s.fro
 
 -- the keys whose front is one of these
 abbrev pub with_fronts : List ℕ → List OrderedKey → List OrderedKey
-with_fronts fronts keys = filter (λ k. is_among (key_front k) fronts) keys
+with_fronts fronts keys = filter (λ k. is_member (key_front k) fronts) keys

@@ -19,8 +19,8 @@ pub record AreSpots (records : Records) (spots : List Spot) : Type 0 where
   pub each : AllByRecursion (IsSpot records) spots
 
 -- the records that the spots name, in the spots' order
-abbrev pub named : Records → List Spot → Records
-named records spots = map (λ (s : Spot). get_or records s.place (key_least, [])) spots
+abbrev pub records_at : Records → List Spot → Records
+records_at records spots = map (λ (s : Spot). get_or records s.place (key_least, [])) spots
 
 -- the spots, each after the key of its record
 abbrev pub keyed_by : Records → List Spot → List (OrderedKey × Spot)
@@ -44,7 +44,7 @@ piece records from to = take (to - from) (drop from records)
 -- each order is one of records, by their strictly rising keys
 pub record IsOrder (records : Records) (spots : List Spot) : Type 0 where
   pub are : AreSpots records spots
-  pub rising : is_rising (named records spots) ≡ true
+  pub rising : is_rising (records_at records spots) ≡ true
 
 -- the spots of the group stand after those that were there, by their records' strictly rising keys
 pub record IsGroupAdded (records : Records) (before group after : List Spot) : Type 0 where
@@ -58,7 +58,7 @@ pub record AreOrders (records : Records) (orders : List (Vec Spot Global)) : Typ
 
 -- the run of each order
 abbrev pub runs_named : Records → List (Vec Spot Global) → List Records
-runs_named records orders = map (λ (order : Vec Spot Global). named records order.items) orders
+runs_named records orders = map (λ (order : Vec Spot Global). records_at records order.items) orders
 
 -- lists of records are stored as such
 abbrev pub runs_code : Coded (List Records)

@@ -4,8 +4,8 @@ ghost use Rattle.std.specs.Prelude.{◌≡◌, ◌==◌, ◌<◌, ◌++◌, OnOk
 ghost use Rattle.std.specs.List.{AllPairs, prefix_len};
 ghost use Rattle.std.specs.List.Sorted.{IsNonDecreasing};
 ghost use Rattle.am_store_runs.specs.Cuts.{keys_of, records_of};
-ghost use Rattle.am_store_runs.specs.Fronts.{fronts_in, is_among, with_fronts, AreShared};
-ghost use Rattle.am_store_runs.specs.RecordPlaces.{named, runs_named, AreOrders, IsOrder};
+ghost use Rattle.am_store_runs.specs.Fronts.{fronts_in, is_member, with_fronts, AreShared};
+ghost use Rattle.am_store_runs.specs.RecordPlaces.{records_at, runs_named, AreOrders, IsOrder};
 
 use crate::record_order::Spot;
 use crate::record_source::RecordSource;
@@ -90,7 +90,7 @@ fn add_keys_with<S: RecordSource>(
     requires order { IsOrder (S.records source.now) order.now }
     requires rising { AllPairs ◌<◌ fronts.now }
     ensures { OnOk result (keys.new.items ≡ keys.old.items ++
-        with_fronts fronts.now (keys_of (named (S.records source.now) order.now))) }
+        with_fronts fronts.now (keys_of (records_at (S.records source.now) order.now))) }
 {
     for spot in order {
         if has(fronts, spot.front) {
@@ -103,7 +103,7 @@ fn add_keys_with<S: RecordSource>(
 // Whether the number is one of those that rise.
 fn has(rising: &[u64], number: u64) -> bool
     requires { AllPairs ◌<◌ rising.now }
-    ensures { result ≡ is_among number rising.now }
+    ensures { result ≡ is_member number rising.now }
 {
     rising.binary_search(&number).is_ok()
 }

@@ -5,7 +5,7 @@ ghost use Rattle.std.specs.List.{prefix_len};
 ghost use Rattle.std.specs.List.Sorted.{IsNonDecreasingBy, IsPermutation};
 ghost use Rattle.am_store_runs.specs.Cuts.{IsPieceFault, IsSortFault};
 ghost use Rattle.am_store_runs.specs.RecordPlaces.{AreSpots, IsGroupAdded, IsByKey, IsOrder};
-ghost use Rattle.am_store_runs.specs.RecordPlaces.{keys_among, named, piece, spots_among};
+ghost use Rattle.am_store_runs.specs.RecordPlaces.{keys_among, records_at, piece, spots_among};
 
 use crate::fault::LoadFault;
 use crate::record_source::RecordSource;
@@ -44,7 +44,7 @@ pub(crate) fn order_of<S: RecordSource>(
     requires within { to ≤ length (S.records source.now) }
     ensures order { IfOk result (λ spots. IsOrder (S.records source.now) spots.items) }
     ensures same { IfOk result (λ spots. IsPermutation (piece (S.records source.now) from to)
-        (named (S.records source.now) spots.items)) }
+        (records_at (S.records source.now) spots.items)) }
     ensures fault { IfErr result (IsPieceFault (piece (S.records source.now) from to)) }
 {
     fronts_follow_keys();
@@ -67,7 +67,7 @@ fn settled<S: RecordSource>(
     requires sorted { IsNonDecreasingBy (λ s. s.front) spots.now }
     ensures order { IfOk result (λ settled. IsOrder (S.records source.now) settled.items) }
     ensures same { IfOk result (λ settled. IsPermutation spots.now settled.items) }
-    ensures fault { IfErr result (IsPieceFault (named (S.records source.now) spots.now)) }
+    ensures fault { IfErr result (IsPieceFault (records_at (S.records source.now) spots.now)) }
 {
     fronts_follow_keys();
     let mut settled = Vec::with_capacity(alloc, spots.len())?;
@@ -97,7 +97,7 @@ fn add_group<S: RecordSource>(
     requires some { 0 < length group.now }
     requires spots { AreSpots (S.records source.now) group.now }
     ensures added { OnOk result (IsGroupAdded (S.records source.now) settled.old.items group.now settled.new.items) }
-    ensures fault { IfErr result (IsPieceFault (named (S.records source.now) group.now)) }
+    ensures fault { IfErr result (IsPieceFault (records_at (S.records source.now) group.now)) }
 {
     if let [spot] = group {
         settled.push(*spot)?;
@@ -117,7 +117,7 @@ fn spots_of<S: RecordSource>(
     requires order { from ≤ to }
     requires within { to ≤ length (S.records source.now) }
     ensures within { IfOk result (λ spots. AreSpots (S.records source.now) spots.items) }
-    ensures all { IfOk result (λ spots. named (S.records source.now) spots.items ≡
+    ensures all { IfOk result (λ spots. records_at (S.records source.now) spots.items ≡
         piece (S.records source.now) from to) }
 {
     let mut spots = Vec::with_capacity(alloc, to - from)?;
@@ -140,7 +140,7 @@ fn by_key<S: RecordSource>(
     requires spots { AreSpots (S.records source.now) spots.now }
     ensures order { IfOk result (λ sorted. IsOrder (S.records source.now) sorted.items) }
     ensures same { IfOk result (λ sorted. IsPermutation spots.now sorted.items) }
-    ensures fault { IfErr result (IsSortFault (named (S.records source.now) spots.now)) }
+    ensures fault { IfErr result (IsSortFault (records_at (S.records source.now) spots.now)) }
 {
     let keyed = keyed_in_order(alloc, source, spots)?;
     let keys = keys_among(alloc, &keyed)?;
@@ -187,7 +187,7 @@ pub(crate) fn gather<S: RecordSource>(
     spots: &[Spot],
 ) -> Result<Vec<(Key, Value)>, AllocError>
     requires { AreSpots (S.records source.now) spots.now }
-    ensures { IfOk result (λ gathered. gathered.items ≡ named (S.records source.now) spots.now) }
+    ensures { IfOk result (λ gathered. gathered.items ≡ records_at (S.records source.now) spots.now) }
 {
     let mut gathered = Vec::with_capacity(alloc, spots.len())?;
     for spot in spots {

@@ -2,8 +2,8 @@
 
 ghost use Rattle.std.specs.Prelude.{◌≡◌, ◌↔◌, true, IsOk, IfOk, IfErr};
 ghost use Rattle.am_record.specs.Plain.{is_rising};
-ghost use Rattle.am_store_runs.specs.Cuts.{keys_of, IsRunOf, IsSortFault, NoneTwice};
-ghost use Rattle.am_store_runs.specs.RecordPlaces.{named, IsOrder};
+ghost use Rattle.am_store_runs.specs.Cuts.{keys_of, IsSortedPiece, IsSortFault, NoneTwice};
+ghost use Rattle.am_store_runs.specs.RecordPlaces.{records_at, IsOrder};
 
 use crate::fault::LoadFault;
 use crate::record_order::{Spot, gather, order_of};
@@ -72,7 +72,7 @@ impl Run {
     /// NotRising, exactly where there is no record. Twice, where a key stands twice: the least such
     /// key. NoMemory, where memory was refused; it may come where Twice is due.
     pub fn sorted(alloc: Global, records: &[(Key, Value)]) -> Result<Run, LoadFault>
-        ensures run { IfOk result (λ run. IsRunOf records.now run) }
+        ensures run { IfOk result (λ run. IsSortedPiece records.now run) }
         ensures apart { IfOk result (λ _. NoneTwice (keys_of records.now)) }
         ensures fault { IfErr result (IsSortFault records.now) }
     {
@@ -97,7 +97,7 @@ impl Run {
         order: &[Spot],
     ) -> Result<Run, AllocError>
         requires { IsOrder (S.records source.now) order.now }
-        ensures { IfOk result (λ run. run ≡ named (S.records source.now) order.now) }
+        ensures { IfOk result (λ run. run ≡ records_at (S.records source.now) order.now) }
     {
         Ok(Run {
             records: gather(alloc, source, order)?,

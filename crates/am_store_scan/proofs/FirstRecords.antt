@@ -25,7 +25,7 @@ use Rattle.am_index.specs.Content.{content, rows_in, IsLiveAt, LivesInOne, Conte
 use Rattle.am_index_parts.specs.Partitions.{AreWellFormed}
 use Rattle.am_store_scan.specs.Directions.{cmp_in, cmp_in-total, le_in, as_read, rest_of}
 use Rattle.am_store_scan.specs.Heads.{Stand, head_cmp, IsHead, IsNextHead, HasNoNext}
-use Rattle.am_store_scan.specs.Cursors.{is_ahead, rows_ahead, is_ahead_in, same_part, AreHeads, AreAhead, AreAllHeads}
+use Rattle.am_store_scan.specs.Cursors.{is_ahead, rows_ahead, is_ahead_in, of_one_part, AreHeads, AreAhead, AreAllHeads}
 use Rattle.am_store_scan.specs.Cursors.{IsFirstBeside}
 use Rattle.am_store_scan.proofs.Directions.{exact, itself, le_in_trans, first_key, last_key, in_range, in_rest}
 use Rattle.am_store_scan.proofs.Directions.{from_ends}
@@ -189,7 +189,7 @@ module _ (back : Bool) where
       sound = sound;
       are_heads = record {
         each = All-permutation (IsHead back es range) heads heads' popped all.are_heads.each;
-        apart = IsDistinct-IsPermutation same_part same_either_way heads heads' popped all.are_heads.apart;
+        apart = IsDistinct-IsPermutation of_one_part same_either_way heads heads' popped all.are_heads.apart;
       };
       before = λ part key value live inside ahead. all_before part key value live inside;
     }
@@ -235,7 +235,7 @@ module _ (back : Bool) where
 
     -- every other head is above it
     rest_above : (gs : List Stand) → AllByRecursion (IsHead back es range) gs →
-        AllByRecursion (λ (g : Stand). same_part h g ≡ false) gs →
+        AllByRecursion (λ (g : Stand). of_one_part h g ≡ false) gs →
         AllByRecursion (λ (g : Stand). is_lt (head_cmp back h g) ≡ false) gs
         → AllByRecursion (λ (g : Stand). cmp_in back h.key g.key ≡ Less) gs
     rest_above [] each apart bound = tt
@@ -257,7 +257,7 @@ module _ (back : Bool) where
 
     others_above : AllByRecursion (λ (g : Stand). cmp_in back h.key g.key ≡ Less) rest
     others_above = rest_above rest (recursion_from_All (IsHead back es range) rest rest_heads)
-        (IsDistinct-head same_part h rest cursor.are_heads.apart) least
+        (IsDistinct-head of_one_part h rest cursor.are_heads.apart) least
 
     -- what is left: heads above it, which have all that is live above it before them
     module _ (heads' : List Stand) (are : AreHeads back es range heads')
@@ -337,8 +337,8 @@ module _ (back : Bool) where
       without_are : AreHeads back es range heads'
       without_are = record {
         each = All-permutation (IsHead back es range) rest heads' popped rest_heads;
-        apart = IsDistinct-IsPermutation same_part same_either_way rest heads' popped
-            (IsDistinct-tail same_part h rest cursor.are_heads.apart);
+        apart = IsDistinct-IsPermutation of_one_part same_either_way rest heads' popped
+            (IsDistinct-tail of_one_part h rest cursor.are_heads.apart);
       }
 
       without_above : All (λ (g : Stand). cmp_in back h.key g.key ≡ Less) heads'
@@ -367,8 +367,8 @@ module _ (back : Bool) where
     -- it moved on
     module _ (new : Stand) (moved : IsNextHead back es range h new) (heads' : List Stand)
         (kept : IsPermutation (new ∷ rest) heads') where
-      new_apart : (gs : List Stand) → AllByRecursion (λ (g : Stand). same_part h g ≡ false) gs →
-          AllByRecursion (λ (g : Stand). same_part new g ≡ false) gs
+      new_apart : (gs : List Stand) → AllByRecursion (λ (g : Stand). of_one_part h g ≡ false) gs →
+          AllByRecursion (λ (g : Stand). of_one_part new g ≡ false) gs
       new_apart [] all = tt
       new_apart (g ∷ gs) all = (ap (λ p. p == g.part) moved.in_part ∙ all.0, new_apart gs all.1)
 
@@ -376,10 +376,10 @@ module _ (back : Bool) where
       with_are = record {
         each = All-permutation (IsHead back es range) (new ∷ rest) heads' kept
             (All-cons (IsHead back es range) new rest moved.head rest_heads);
-        apart = IsDistinct-IsPermutation same_part same_either_way (new ∷ rest) heads' kept
-            (IsDistinct-cons same_part new rest (new_apart rest
-            (IsDistinct-head same_part h rest cursor.are_heads.apart))
-            (IsDistinct-tail same_part h rest cursor.are_heads.apart));
+        apart = IsDistinct-IsPermutation of_one_part same_either_way (new ∷ rest) heads' kept
+            (IsDistinct-cons of_one_part new rest (new_apart rest
+            (IsDistinct-head of_one_part h rest cursor.are_heads.apart))
+            (IsDistinct-tail of_one_part h rest cursor.are_heads.apart));
       }
 
       with_above : All (λ (g : Stand). cmp_in back h.key g.key ≡ Less) heads'

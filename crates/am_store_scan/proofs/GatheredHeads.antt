@@ -31,7 +31,7 @@ use Rattle.am_index_parts.specs.MergedRanges.{HasNoneBefore}
 use Rattle.am_index_parts.specs.Partitions.{AreWellFormed, AreEmpty, AreEmptyFrom}
 use Rattle.am_store_scan.specs.Directions.{cmp_in, le_in}
 use Rattle.am_store_scan.specs.Heads.{Stand, head_cmp, IsHead, IsFirstHead, HasNoneLive}
-use Rattle.am_store_scan.specs.Cursors.{is_ahead_in, same_part, AreHeads, AreAllHeads}
+use Rattle.am_store_scan.specs.Cursors.{is_ahead_in, of_one_part, AreHeads, AreAllHeads}
 use Rattle.am_store_scan.proofs.HeadMoves.{turned}
 
 -- ---- numbers of partitions
@@ -42,7 +42,7 @@ same_number x y h = grind (arith, nat_tests)
 pub other_number : (x y : ℕ) → (x ≡ y → ⊥) → (x == y) ≡ false
 other_number x y h = ⊎_elim (λ yes. absurd (h (eqb-true x y yes))) (λ no. no) (cases_Bool (x == y))
 
-pub same_either_way : (g h : Stand) → same_part g h ≡ same_part h g
+pub same_either_way : (g h : Stand) → of_one_part g h ≡ of_one_part h g
 same_either_way g h =
     ⊎_elim
     (λ yes. yes ∙ sym (same_number h.part g.part (sym (eqb-true g.part h.part yes))))
@@ -105,7 +105,7 @@ module _ (back : Bool) where
   none_yet es range heads none heap = record {
     are_heads = record {
       each = subst (All (IsHead back es range)) (sym none) (All-nil (IsHead back es range));
-      apart = subst (IsDistinct same_part) (sym none) tt;
+      apart = subst (IsDistinct of_one_part) (sym none) tt;
     };
     heap = heap;
     below = subst (All (λ (h : Stand). h.part < 0)) (sym none) (All-nil (λ (h : Stand). h.part < 0));
@@ -119,7 +119,7 @@ module _ (back : Bool) where
       (omega (arith, low), lower_all to to' heads le all.1)
 
   apart_from : (to : ℕ) (h : Stand) (heads : List Stand) → to ≤ h.part →
-      AllByRecursion (λ (g : Stand). g.part < to) heads → AllByRecursion (λ (g : Stand). same_part h g ≡ false)
+      AllByRecursion (λ (g : Stand). g.part < to) heads → AllByRecursion (λ (g : Stand). of_one_part h g ≡ false)
       heads
   apart_from to h [] le all = tt
   apart_from to h (g ∷ heads) le all = let low : g.part < to = all.0 in
@@ -188,8 +188,9 @@ module _ (back : Bool) where
             are_heads = record {
               each = All-permutation (IsHead back es range) (h ∷ heads) heads' moved
                   (All-cons (IsHead back es range) h heads begins.head gathered.are_heads.each);
-              apart = IsDistinct-IsPermutation same_part same_either_way (h ∷ heads) heads' moved
-                  (IsDistinct-cons same_part h heads (apart_from to h heads above_to below_h) gathered.are_heads.apart);
+              apart = IsDistinct-IsPermutation of_one_part same_either_way (h ∷ heads) heads' moved
+                  (IsDistinct-cons of_one_part h heads (apart_from to h heads above_to below_h)
+                  gathered.are_heads.apart);
             };
             heap = keeps gathered.heap;
             below = All-permutation (λ (g : Stand). g.part < at + 1) (h ∷ heads) heads' moved

@@ -23,13 +23,13 @@ rows_ahead back heads range m = as_read back (rows_where (λ key. is_ahead back 
 abbrev pub is_ahead_in : Bool → List Stand → ℕ → OrderedKey → Bool
 is_ahead_in back heads part key = list_any (λ (h : Stand). h.part == part && le_in back h.key key) heads
 
-abbrev pub same_part : Stand → Stand → Bool
-same_part g h = g.part == h.part
+abbrev pub of_one_part : Stand → Stand → Bool
+of_one_part g h = g.part == h.part
 
 -- heads at live entries of the range, one of a partition at most
 pub record AreHeads (back : Bool) (es : List Entry) (range : Interval) (heads : List Stand) : Type 0 where
   pub each : All (IsHead back es range) heads
-  pub apart : IsDistinct same_part heads
+  pub apart : IsDistinct of_one_part heads
 
 -- the heads have all that is live from the first head on before them
 pub record AreAhead (back : Bool) (es : List Entry) (range : Interval) (heads : List Stand) : Type 0 where

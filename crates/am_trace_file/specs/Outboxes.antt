@@ -5,5 +5,5 @@ use Rattle.am_trace_file.specs.declared.outbox.Sending.{Sending}
 abbrev pub sending_failures : {R : Type 0} → Sending R → ℕ
 sending_failures s = s.failures
 
-abbrev pub is_unsent : {R : Type 0} → Sending R → Bool
-is_unsent s = s.is_pending
+abbrev pub is_unwritten : {R : Type 0} → Sending R → Bool
+is_unwritten s = s.is_pending

@@ -3,7 +3,7 @@
 //! So a file that takes long holds up nobody but that thread, and what waits for it is text.
 
 ghost use Rattle.std.specs.Prelude.{◌≡◌, false};
-ghost use Rattle.am_trace_file.specs.Outboxes.{sending_failures, is_unsent};
+ghost use Rattle.am_trace_file.specs.Outboxes.{sending_failures, is_unwritten};
 
 use crate::growing_file::GrowingFile;
 use am_line_sink::{Failed, Sink};
@@ -175,7 +175,7 @@ impl<'a, R> Sending<'a, R> {
     /// A sink that has taken nothing yet.
     pub fn new(rt: &'a R, outbox: &'a Outbox) -> Sending<'a, R>
         ensures failures { sending_failures result ≡ 0 }
-        ensures sent { is_unsent result ≡ false }
+        ensures sent { is_unwritten result ≡ false }
     {
         Sending {
             rt,
@@ -193,7 +193,7 @@ impl<'a, R: Eprint + Wait> Sink for Sending<'a, R> {
 
     ghost failures = { sending_failures };
 
-    ghost pending = { is_unsent };
+    ghost pending = { is_unwritten };
 
     fn give(&mut self, piece: &[u8]) -> Result<usize, Failed> {
         if self.outbox.put(self.rt, piece).is_err() {

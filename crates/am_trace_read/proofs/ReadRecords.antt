@@ -4,7 +4,7 @@ use Rattle.std.proofs.Common.{append-nil, option_map}
 use Rattle.std.specs.Option.{option_zip}
 use Rattle.am_record.specs.OrderedKey.{OrderedKey}
 use Rattle.am_record.specs.Records.{Records}
-use Rattle.am_trace_text.specs.FieldReadings.{record_in, records_of_fields, with_record}
+use Rattle.am_trace_text.specs.FieldReadings.{record_in, records_of_fields, record_first}
 use Rattle.am_trace_text.specs.declared.version.Version.{Version}
 
 -- these records were read, and these fields are left
@@ -13,7 +13,7 @@ AreRead v fields read rest = records_of_fields v fields ≡ option_map (λ (more
     (records_of_fields v rest)
 
 front : (read : Records) (r : OrderedKey × List ℕ) (o : Option Records) →
-    option_map (λ (more : Records). read ++ more) (option_map with_record (option_zip (Some r) o)) ≡ option_map
+    option_map (λ (more : Records). read ++ more) (option_map record_first (option_zip (Some r) o)) ≡ option_map
     (λ (more : Records). (read ++ r ∷ []) ++ more) o
 front read r None = refl
 front read r (Some more) = ap (λ x. Some x) (sym (append_assoc read (r ∷ []) more))
@@ -23,9 +23,9 @@ pub record_more : (v : Version) (fields : List (List ℕ)) (read : Records) (f :
     AreRead v fields (read ++ r ∷ []) rest
 record_more v fields read f rest r h e =
     h ∙ ap (λ o. option_map (λ (more : Records). read ++ more)
-    (option_map with_record (option_zip o (records_of_fields v rest)))) e ∙ front read r (records_of_fields v rest)
+    (option_map record_first (option_zip o (records_of_fields v rest)))) e ∙ front read r (records_of_fields v rest)
 
-nothing : (o : Option Records) → option_map with_record (option_zip None o) ≡ None
+nothing : (o : Option Records) → option_map record_first (option_zip None o) ≡ None
 nothing None = refl
 nothing (Some x) = refl
 
@@ -33,7 +33,7 @@ pub record_bad : (v : Version) (fields : List (List ℕ)) (read : Records) (f : 
     AreRead v fields read (f ∷ rest) → record_in v f ≡ None → records_of_fields v fields ≡ None
 record_bad v fields read f rest h e =
     h ∙ ap (λ o. option_map (λ (more : Records). read ++ more)
-    (option_map with_record (option_zip o (records_of_fields v rest)))) e ∙
+    (option_map record_first (option_zip o (records_of_fields v rest)))) e ∙
     ap (option_map (λ (more : Records). read ++ more)) (nothing (records_of_fields v rest))
 
 pub records_all : (v : Version) (fields : List (List ℕ)) (read : Records) → AreRead v fields read [] →

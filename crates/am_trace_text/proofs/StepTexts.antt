@@ -28,7 +28,7 @@ use Rattle.am_trace_text.specs.Steps.{op_in, do_in, step_of, step_with, step_in}
 use Rattle.am_trace_text.specs.FieldReadings.{number_in, key_in, value_in, record_in, range_in, nothing_in}
 use Rattle.am_trace_text.specs.FieldReadings.{one_key_in, key_and_value_in, range_and_number_in, lock_fields_in}
 use Rattle.am_trace_text.specs.FieldReadings.{lock_of_parts, one_number_in}
-use Rattle.am_trace_text.specs.FieldReadings.{records_of_fields, with_record, savepoint_in, in_three}
+use Rattle.am_trace_text.specs.FieldReadings.{records_of_fields, record_first, savepoint_in, in_three}
 use Rattle.am_trace_text.specs.declared.version.Version.{Version}
 use Rattle.am_trace_text.specs.declared.version.Version.TheVariants.{One, Two, Three}
 use Rattle.am_trace_text.proofs.IsText.{IsText, zipped, zip_of, chained, same_some, one_field, two_fields}
@@ -68,7 +68,7 @@ module _ (laws : WordLaws) where
   records_there : (v : Version) (rs : Records) → AreRecords v rs → records_of_fields v (map (record_word v) rs) ≡ Some
       rs
   records_there v [] h = refl
-  records_there v (r ∷ rs) h = ap (option_map with_record)
+  records_there v (r ∷ rs) h = ap (option_map record_first)
       (zip_of (record_in v (record_word v r)) (records_of_fields v (map (record_word v) rs)) r rs
       ((record_text numbers v).there r h.0) (records_there v rs h.1))
 
@@ -76,7 +76,7 @@ module _ (laws : WordLaws) where
       AreRecords v rs × (fs ≡ map (record_word v) rs)
   records_back v [] rs e = let same : [] ≡ rs = cc in (subst (AreRecords v) same tt, ap (map (record_word v)) same)
   records_back v (f ∷ fs) rs e =
-      let m = mapped with_record (option_zip (record_in v f) (records_of_fields v fs)) rs e in
+      let m = mapped record_first (option_zip (record_in v f) (records_of_fields v fs)) rs e in
       let z = zipped (record_in v f) (records_of_fields v fs) m.0 m.1 in
       let first = (record_text numbers v).back f m.0.0 z.0 in
       let more = records_back v fs m.0.1 z.1 in

@@ -111,12 +111,12 @@ fields_in first second fs = option_and_then (both_in first second) (two_of fs)
 abbrev pub one_number_in : List (List ℕ) → Option ℕ
 one_number_in fs = field_in number_in fs
 
-abbrev pub with_record : (OrderedKey × List ℕ) × Records → Records
-with_record p = p.0 ∷ p.1
+abbrev pub record_first : (OrderedKey × List ℕ) × Records → Records
+record_first p = p.0 ∷ p.1
 
 abbrev pub records_of_fields : Version → List (List ℕ) → Option Records
 records_of_fields v [] = Some []
-records_of_fields v (f ∷ fs) = option_map with_record (option_zip (record_in v f) (records_of_fields v fs))
+records_of_fields v (f ∷ fs) = option_map record_first (option_zip (record_in v f) (records_of_fields v fs))
 
 abbrev pub one_key_in : Version → List (List ℕ) → Option OrderedKey
 one_key_in v fs = field_in (key_in v) fs

@@ -1,7 +1,7 @@
 use Rattle.std.proofs.Common.{◌∙◌, ◌+◌, ◌-◌, ℕ, List, length, take, drop, sym, ap, rules}
 use Rattle.std.proofs.lemmas.List.{take_rest}
 use Rattle.am_line_source.specs.Lines.{HasNoLf}
-use Rattle.am_serve_connections.specs.OwnLines.{http_end, line_behind, later}
+use Rattle.am_serve_connections.specs.OwnLines.{http_end, line_behind, moved_on}
 use Rattle.am_serve_connections.proofs.HttpEnds.{end_found, end_later, line_later, line_fits, none_found, line_left}
 use Rattle.am_serve_connections.proofs.own_lines.http_end.Goals as goal
 
@@ -26,7 +26,7 @@ lines-preserved c =
       fits = line_fits bytes rest seg start c.lines.invariant.fits (take_rest bytes start) c.in-Some.ensures.line;
       end = end_later first line bytes rest seg start c.lines.invariant.end (take_rest bytes start)
           c.in-Some.ensures.one c.in-Some.ensures.line (sym c.end.ensures.http ∙ c.if-end.false) ∙
-          ap (λ (l : List ℕ). later next (http_end l (drop next bytes))) (sym c.end.ensures.next);
+          ap (λ (l : List ℕ). moved_on next (http_end l (drop next bytes))) (sym c.end.ensures.next);
       line = line_later first line bytes rest seg start c.lines.invariant.line (take_rest bytes start)
           c.in-Some.ensures.one c.in-Some.ensures.line ∙
           ap (λ (l : List ℕ). line_behind l (drop next bytes)) (sym c.end.ensures.next);

@@ -3,8 +3,8 @@ use Rattle.std.specs.Prelude.{length, min, Vec}
 use Rattle.std.specs.declared.alloc.Global.{Global}
 use Rattle.std.proofs.lemmas.List.{length-drop}
 use Rattle.am_record.specs.Plain.{Records}
-use Rattle.am_store_runs.specs.Cuts.{IsPieceFault, IsRunOf}
-use Rattle.am_store_runs.specs.RecordPlaces.{AreOrders, named, piece, runs_named}
+use Rattle.am_store_runs.specs.Cuts.{IsPieceFault, IsSortedPiece}
+use Rattle.am_store_runs.specs.RecordPlaces.{AreOrders, records_at, piece, runs_named}
 use Rattle.am_store_runs.specs.declared.record_order.Spot.{Spot}
 use Rattle.am_store_runs.proofs.Orders.{orders_more, runs_more}
 use Rattle.am_store_runs.proofs.Pieces.{IsCutting, cut_next, cut_whole, fault_of_piece}
@@ -18,7 +18,7 @@ loop-from-preserved g c =
     let order = c.in_ok-order_of.field-0 in
     let size : c.min.result ≡ min c.args.n (length all - from) = c.min.ensures
     ∙ ap (λ k. min c.args.n (k - from)) c.len-len.ensures in
-    let is : IsRunOf (piece all from (from + c.min.result)) (named all order.items) = record {
+    let is : IsSortedPiece (piece all from (from + c.min.result)) (records_at all order.items) = record {
       rising = c.in_ok-order_of.ensures.order.rising;
       same = c.in_ok-order_of.ensures.same;
     } in
@@ -28,7 +28,7 @@ loop-from-preserved g c =
           (orders_more all orders order c.loop-from.invariant.orders c.in_ok-order_of.ensures.order);
       cutting = subst (λ (runs : List Records). IsCutting c.args.n all runs (drop (from + c.min.result) all))
           (sym (ap (runs_named all) c.in_ok-push.ensures.items ∙ runs_more all orders order))
-          (cut_next from c.min.result (named all order.items) c.loop-from.invariant.within size
+          (cut_next from c.min.result (records_at all order.items) c.loop-from.invariant.within size
           c.loop-from.invariant.cutting is);
     }
 

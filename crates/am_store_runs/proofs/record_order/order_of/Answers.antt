@@ -5,7 +5,7 @@ use Rattle.std.specs.List.Sorted.{IsPermutation, IsNonDecreasingBy}
 use Rattle.std.proofs.lemmas.List.Sorted.{answers_always, IsPermutation-trans, length_permutation}
 use Rattle.std.proofs.lemmas.List.Sorted.{IsNonDecreasingBy-from_sort_by_key}
 use Rattle.am_store_runs.specs.Cuts.{IsPieceFault}
-use Rattle.am_store_runs.specs.RecordPlaces.{named, piece}
+use Rattle.am_store_runs.specs.RecordPlaces.{records_at, piece}
 use Rattle.am_store_runs.specs.declared.record_order.Spot.{Spot}
 use Rattle.am_store_runs.proofs.GroupOrders.{front}
 use Rattle.am_store_runs.proofs.Orders.{order_by_front, named_long}
@@ -75,7 +75,7 @@ returns-clause-same g c =
     let moved : IsPermutation spots sorted = subst (IsPermutation spots) (sym c.deref-2.ensures.value)
     c.sort_unstable_by_key.ensures.permutation in
     elim c.settled.result as (λ r. IfOk r (λ order. IsPermutation sorted order.items) →
-    IfOk r (λ order. IsPermutation some (named rs order.items))) [
+    IfOk r (λ order. IsPermutation some (records_at rs order.items))) [
       | Ok order ↦ λ same. named_permuted rs some spots order.items
           (IsPermutation-trans spots sorted order.items moved same) c.in_ok-spots.ensures.all
       | Err e ↦ λ same. tt
@@ -89,8 +89,8 @@ returns-clause-fault g c =
     let some = piece rs c.args.from c.args.to in
     let moved : IsPermutation spots sorted = subst (IsPermutation spots) (sym c.deref-2.ensures.value)
     c.sort_unstable_by_key.ensures.permutation in
-    elim c.settled.result as (λ r. IfErr r (IsPieceFault (named rs sorted)) → IfErr r (IsPieceFault some)) [
+    elim c.settled.result as (λ r. IfErr r (IsPieceFault (records_at rs sorted)) → IfErr r (IsPieceFault some)) [
       | Ok order ↦ λ h. tt
-      | Err fault ↦ λ h. fault_permuted some (named rs sorted) fault
+      | Err fault ↦ λ h. fault_permuted some (records_at rs sorted) fault
           (named_permuted rs some spots sorted moved c.in_ok-spots.ensures.all) h
     ] c.settled.ensures.fault

@@ -2,7 +2,7 @@ use Rattle.std.proofs.Common.{rules, arith, sym, ap, ◌∙◌, subst, refl, Lis
 use Rattle.std.proofs.lemmas.List.Sums.{prefix_len-le-length}
 use Rattle.std.specs.Prelude.{nat_eq}
 use Rattle.am_store_runs.specs.Cuts.{IsPieceFault}
-use Rattle.am_store_runs.specs.RecordPlaces.{IsGroupAdded, named}
+use Rattle.am_store_runs.specs.RecordPlaces.{IsGroupAdded, records_at}
 use Rattle.am_store_runs.specs.declared.record_order.Spot.{Spot}
 use Rattle.am_store_runs.proofs.Groups.{alike}
 use Rattle.am_store_runs.proofs.GroupOrders.{front, IsSettling, settling_begins, group_settled, settled_order}
@@ -28,9 +28,9 @@ pub returns-in_err-add_group-clause-fault : goal.returns-in_err-add_group-clause
 returns-in_err-add_group-clause-fault g c =
     let rs = g.S.RecordSource.records c.args.source.now in
     let fault = c.in_err-add_group.field-0.0 in
-    let is : IsPieceFault (named rs c.args.spots.now) fault =
+    let is : IsPieceFault (records_at rs c.args.spots.now) fault =
     fault_of_group c.count_alike.result fault c.loop-left.invariant
-    (subst (λ (l : List Spot). IsPieceFault (named rs l) fault) c.split_at.ensures.front
+    (subst (λ (l : List Spot). IsPieceFault (records_at rs l) fault) c.split_at.ensures.front
     c.in_err-add_group.ensures.fault) in
     search (rules, is)
 

@@ -1,6 +1,6 @@
 use Rattle.std.proofs.Common.{◌≡◌, ◌<◌, ℕ, length, subst, sym, ap, ◌∙◌, refl, arith}
 use Rattle.std.proofs.lemmas.Bool.Decides.{nat_tests}
-use Rattle.am_index_directory.specs.Tables.{Tables, label, code, code_in, piece_of, residence_by, entered}
+use Rattle.am_index_directory.specs.Tables.{Tables, label, word_code, code_in, piece_of, residence_by, once_entered}
 use Rattle.am_index_directory.specs.declared.residence.Residence.{Residence}
 use Rattle.am_index_directory.proofs.Residences.{residence_of-lost, residence_of-code, none_by, own_told, others_told}
 use Rattle.am_index_directory.proofs.PieceOf.{room_left}
@@ -37,13 +37,13 @@ pub returns-clause-entered : goal.returns-clause-entered
 returns-clause-entered c = λ none whole.
     let old = c.args.self.now in let new = c.put.new.self in let number = c.args.number in
     let word = c.word_of.result in let at = c.in-Some.found.at in
-    let told : residence_by (code word) ≡ entered (residence_by (code_in old (label number))) c.args.run =
+    let told : residence_by (word_code word) ≡ once_entered (residence_by (code_in old (label number))) c.args.run =
     ap residence_by c.word_of.ensures.code ∙ c.code_entered-code.ensures.says ∙
-    ap (λ (k : ℕ). entered (residence_by k) c.args.run)
+    ap (λ (k : ℕ). once_entered (residence_by k) c.args.run)
     (c.in-Some.ensures.code ∙ ap (code_in old) c.label-label.ensures.value) in
     let same : label word ≡ label number = c.word_of.ensures.label ∙ c.label-label.ensures.value in
     record {
-      entered = own_told old new number at word (λ (r : Residence). entered r c.args.run) c.put.ensures.lost
+      entered = own_told old new number at word (λ (r : Residence). once_entered r c.args.run) c.put.ensures.lost
           c.put.ensures.put same refl told;
       others = λ n other. others_told old new at word c.put.ensures.lost c.put.ensures.put n (λ e. other (e ∙ same));
     }

@@ -1,5 +1,5 @@
 use Rattle.std.proofs.Common.{◌≡◌, ◌≢◌, ◌<◌, ℕ, length, get_or, subst, sym, ap, ◌∙◌, refl, arith}
-use Rattle.am_index_directory.specs.Tables.{label, code, code_in, piece_of, residence_by, left, code_left}
+use Rattle.am_index_directory.specs.Tables.{label, word_code, code_in, piece_of, residence_by, once_left, code_left}
 use Rattle.am_index_directory.proofs.Residences.{own_told, others_told, left_asleep, none_leaves}
 use Rattle.am_index_directory.proofs.Residences.{has_code, same_code, left_code, left_as_was}
 use Rattle.am_index_directory.proofs.PieceOf.{found_some, same_room, same_labels}
@@ -11,11 +11,12 @@ returns-then-found-ge-FIRST-clause-left c =
     let word = c.word_of.result in
     let before : c.in-Some.found.code ≡ code_in old (label number) = c.in-Some.ensures.code ∙
     ap (code_in old) c.label-label.ensures.value in
-    let told : residence_by (code word) ≡ left (residence_by (code_in old (label number))) =
+    let told : residence_by (word_code word) ≡ once_left (residence_by (code_in old (label number))) =
     ap residence_by c.word_of.ensures.code ∙ left_asleep (code_in old (label number)) (omega arith) in
     let same : label word ≡ label number = c.word_of.ensures.label ∙ c.label-label.ensures.value in
     record {
-      left = own_told old new number c.in-Some.found.at word left c.put.ensures.lost c.put.ensures.put same refl told;
+      left = own_told old new number c.in-Some.found.at word once_left c.put.ensures.lost c.put.ensures.put same refl
+          told;
       others = λ n other. others_told old new c.in-Some.found.at word c.put.ensures.lost c.put.ensures.put n
           (λ e. other (e ∙ same));
     }

@@ -1,7 +1,7 @@
 use Rattle.std.proofs.Common.{◌≡◌, ◌≢◌, ◌<◌, ◌+◌, ℕ, true, leb, length, get_or, subst, sym, ap, ◌∙◌, refl, arith}
 use Rattle.std.proofs.Common.{⊎_elim}
 use Rattle.std.proofs.lemmas.Bool.{cases_eq}
-use Rattle.am_index_directory.specs.Tables.{label, code, code_in, kept, piece_of, residence_by, code_let_go}
+use Rattle.am_index_directory.specs.Tables.{label, word_code, code_in, kept, piece_of, residence_by, code_let_go}
 use Rattle.am_index_directory.specs.declared.residence.Residence.{Residence}
 use Rattle.am_index_directory.proofs.Residences.{own_told, others_told, has_code, same_code, let_go_code, let_go_as_was}
 use Rattle.am_index_directory.proofs.Copies.{is_kept}
@@ -14,7 +14,7 @@ returns-then-found-eq-ASLEEP-clause-same c = λ n.
     let word = c.word_of.result in
     let before : c.in-Some.found.code ≡ code_in old (label number) = c.in-Some.ensures.code ∙
     ap (code_in old) c.label-label.ensures.value in
-    let told : residence_by (code word) ≡ residence_by (code_in old (label number)) =
+    let told : residence_by (word_code word) ≡ residence_by (code_in old (label number)) =
     ap residence_by c.word_of.ensures.code ∙ ap residence_by (sym (sym before ∙ c.if-found-eq-ASLEEP.true)) in
     let same : label word ≡ label number = c.word_of.ensures.label ∙ c.label-label.ensures.value in
     ⊎_elim

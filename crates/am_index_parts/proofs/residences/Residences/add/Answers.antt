@@ -5,7 +5,7 @@ use Rattle.am_index.specs.Edits.{same_place}
 use Rattle.am_index.proofs.Edits.{same_place-itself}
 use Rattle.am_index_directory.specs.Tables.{label, code_in, HasCode, HasEntered, IsEntered}
 use Rattle.am_index.specs.Entries.{slot_of, find, insert_entry}
-use Rattle.am_index_parts.specs.Residences.{LivesInRun, StandsInRun, place_of}
+use Rattle.am_index_parts.specs.Residences.{LivesInRun, StandsInRun, place_of_run}
 use Rattle.am_index_parts.proofs.KeptWords.{keeps_on, keeps_entered, live_unless, stand_still}
 use Rattle.am_index_parts.proofs.LiveRuns.{changed, fewer, fewer_in_final, ghost_dead, inserted_finds, lives}
 use Rattle.am_index_parts.proofs.DirectoryAnswers.{tells_fewer, tells_entered}
@@ -19,7 +19,7 @@ returns-then-not-entry-clause-added c = λ es rising was.
     tells_entered c.args.self.now.hash (LivesInRun es) (LivesInRun (insert_entry es x)) c.args.self.now.directory
     c.enter.new.self was x.key x.part
     (changed es (insert_entry es x) x.part x.key (Some (slot_of x)) (inserted_finds es rising x))
-    (λ whole. subst (λ (n : ℕ). HasEntered c.args.self.now.directory n (place_of x.part) c.enter.new.self)
+    (λ whole. subst (λ (n : ℕ). HasEntered c.args.self.now.directory n (place_of_run x.part) c.enter.new.self)
     c.number.ensures
     (c.enter.ensures.entered whole))
 
@@ -52,7 +52,7 @@ returns-then-not-entry-clause-kept c = λ es rising none was.
     (lives x.value (omega (arith, c.if-entry-gt0.true)) (finds x.part x.key ∙
     cond-true (same_place x.part x.key x.part x.key) (Some (slot_of x)) (find es x.part x.key)
     (same_place-itself x.part x.key) ∙ ap (λ b. Some (x.value, b)) c.if-not-entry.true))
-    (subst (λ (n : ℕ). HasCode old n (IsEntered (code_in old (label n)) (place_of x.part)) new)
+    (subst (λ (n : ℕ). HasCode old n (IsEntered (code_in old (label n)) (place_of_run x.part)) new)
     c.number.ensures c.enter.ensures.code)
 
 pub returns-else-entry-gt0-clause-kept : goal.returns-else-entry-gt0-clause-kept

@@ -8,7 +8,7 @@ use Rattle.am_index.specs.Edits.{same_place}
 use Rattle.am_index.proofs.Edits.{same_place-itself}
 use Rattle.am_index_directory.specs.Tables.{label, code_in, code_left, HasCode, HasEntered, HasLeft, IsEntered}
 use Rattle.am_index.specs.Entries.{Slot, find, set_entry}
-use Rattle.am_index_parts.specs.Residences.{LivesInRun, StandsInRun, place_of}
+use Rattle.am_index_parts.specs.Residences.{LivesInRun, StandsInRun, place_of_run}
 use Rattle.am_index_parts.proofs.KeptWords.{keeps_on, keeps_entered, keeps_asleep, live_unless, others_live}
 use Rattle.am_index_parts.proofs.KeptWords.{stand_still}
 use Rattle.am_index_parts.proofs.Alive.{differ, alike, contrary}
@@ -66,7 +66,7 @@ returns-else-is_ghost-clause-told c = λ es value rising one there mark was.
     c.enter.new.self was key part
     (changed es es' part key (Some (value, c.args.is_ghost))
     (reset_finds es rising part key value c.args.is_ghost there))
-    (λ whole. subst (λ (n : ℕ). HasEntered c.args.self.now.directory n (place_of part) c.enter.new.self)
+    (λ whole. subst (λ (n : ℕ). HasEntered c.args.self.now.directory n (place_of_run part) c.enter.new.self)
     c.number-number.ensures
     (c.enter.ensures.entered whole))
 
@@ -130,5 +130,5 @@ returns-else-is_ghost-clause-kept c = λ es value rising there mark was.
     (λ at. subst (λ (k : OrderedKey). LivesInRun es' k part') (sym at.0)
     (subst (LivesInRun es' key) (sym at.1) lives_now)) it)
     (λ key' it. stand_still es es' part key slot finds (value, c.args.is_ghost) refl key' it) lives_now
-    (subst (λ (n : ℕ). HasCode old n (IsEntered (code_in old (label n)) (place_of part)) new)
+    (subst (λ (n : ℕ). HasCode old n (IsEntered (code_in old (label n)) (place_of_run part)) new)
     c.number-number.ensures c.enter.ensures.code)

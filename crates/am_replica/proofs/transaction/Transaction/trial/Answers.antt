@@ -1,7 +1,7 @@
 use Rattle.std.proofs.Common.{◌≡◌, ◌≤◌, ◌+◌, ◌++◌, [], List, length, arith, sym, ap, subst, ◌∙◌, length-append}
 use Rattle.std.proofs.lemmas.List.{length-take-le}
 use Rattle.am_record.specs.declared.step.Op.{Op}
-use Rattle.am_replica.specs.Bodies.{kept, replies, given, given_ops}
+use Rattle.am_replica.specs.Bodies.{kept_ops, replies, given, given_ops}
 use Rattle.am_replica.specs.Told.{TransactionState, behind_lines}
 use Rattle.am_replica.proofs.Given.{given_are_kept, replies_length}
 use Rattle.am_replica.proofs.transaction.Transaction.trial.Goals as goal
@@ -46,7 +46,7 @@ returns-clause-goes_on g c =
     let all : c.in_ok-all.all.items ≡ ops = c.in_ok-all.ensures ∙ ap (λ os. os ++ lines) c.deref.ensures.value in
     let told : c.in_ok-replies.replies.items ≡ replies ops m =
     c.in_ok-replies.ensures.answers ∙ ap (λ os. replies os m) (c.deref-2.ensures.value ∙ all) in
-    let own : c.in_ok-own.own.items ≡ kept ops =
+    let own : c.in_ok-own.own.items ≡ kept_ops ops =
     c.in_ok-own.ensures
     ∙ ap (λ os. given_ops os c.deref-5.result.now) (c.deref-4.ensures.value ∙ all)
     ∙ ap (λ rs. given_ops ops rs) (c.deref-5.ensures.value ∙ told)

@@ -1,12 +1,12 @@
 use Rattle.am_replica_lines.specs.Lines.{told_lines}
-use Rattle.am_replica_trials.specs.Trials.{Stand}
+use Rattle.am_replica_trials.specs.Trials.{TrialState}
 use Rattle.am_replica_trials.proofs.Blocks.{asks_all, told_first}
 use Rattle.am_replica_trials.proofs.transaction.LineTransaction.into_block.Goals as goal
 
 pub returns-clause-read : goal.returns-clause-read
 returns-clause-read c own has none =
     let self = c.args.self in
-    let s : Stand = record {
+    let s : TrialState = record {
       transaction = self.transaction;
       session = self.session;
       lines = self.lines.items;

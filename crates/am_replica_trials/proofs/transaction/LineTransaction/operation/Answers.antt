@@ -2,7 +2,7 @@ use Rattle.std.proofs.Common.{◌≡◌, true, [], ◌∷◌, List, sym, ap, sub
 use Rattle.am_record.specs.declared.step.Op.{Op}
 use Rattle.am_replica.specs.Told.{still_stands, behind_lines, untold}
 use Rattle.am_replica_blocks.specs.Blocks.{waiting}
-use Rattle.am_replica_trials.specs.Trials.{Stand, whole_op}
+use Rattle.am_replica_trials.specs.Trials.{TrialState, whole_op}
 use Rattle.am_replica_trials.proofs.Answers.{replied}
 use Rattle.am_replica_trials.proofs.transaction.LineTransaction.operation.Goals as goal
 
@@ -12,14 +12,14 @@ returns-clause-answered g c own has room asks =
     let m = g.M.Machine.map c.args.machine.now in
     let old = c.args.self.now in
     let new = c.keep.new.self in
-    let s : Stand = record {
+    let s : TrialState = record {
       transaction = old.transaction;
       session = old.session;
       lines = old.lines.items;
       answered = old.answered;
       is_over = old.is_over;
     } in
-    let s' : Stand = record {
+    let s' : TrialState = record {
       transaction = new.transaction;
       session = new.session;
       lines = new.lines.items;

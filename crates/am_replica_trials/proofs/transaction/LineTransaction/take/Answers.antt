@@ -6,7 +6,7 @@ use Rattle.am_line_dialogue.specs.ParsedLine.{MayParse}
 use Rattle.am_line_dialogue.specs.declared.lines.ParsedLine.TheVariants.{Asked}
 use Rattle.am_replica_blocks.specs.Blocks.{waiting}
 use Rattle.am_replica_lines.proofs.Lines.{parsed_asks}
-use Rattle.am_replica_trials.specs.Trials.{Stand}
+use Rattle.am_replica_trials.specs.Trials.{TrialState}
 use Rattle.am_replica_trials.proofs.Answers.{stages}
 use Rattle.am_replica_trials.proofs.transaction.LineTransaction.take.Goals as goal
 
@@ -15,14 +15,14 @@ returns-in_ok-keep-in-Asked-Stage-clause-answered g c own has =
     let digest = g.D.Digest.digest_of in
     let old = c.args.self.now in
     let new = c.keep.new.self in
-    let s : Stand = record {
+    let s : TrialState = record {
       transaction = old.transaction;
       session = old.session;
       lines = old.lines.items;
       answered = old.answered;
       is_over = old.is_over;
     } in
-    let s' : Stand = record {
+    let s' : TrialState = record {
       transaction = new.transaction;
       session = new.session;
       lines = new.lines.items;

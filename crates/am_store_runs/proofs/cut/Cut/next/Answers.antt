@@ -1,7 +1,7 @@
 use Rattle.std.proofs.Common.{◌<◌, Some, ap, ◌∙◌, sym, arith, length, drop, get_or}
 use Rattle.std.specs.Prelude.{slice_get}
 use Rattle.std.proofs.lemmas.List.{drop-drop}
-use Rattle.am_store_runs.specs.RecordPlaces.{named, runs_named}
+use Rattle.am_store_runs.specs.RecordPlaces.{records_at, runs_named}
 use Rattle.am_store_runs.proofs.Orders.{next_run}
 use Rattle.am_store_runs.proofs.cut.Cut.next.Goals as goal
 
@@ -16,7 +16,7 @@ returns-clause-run g c =
       c.in-Some.ensures.lookup.3.0,
       ap (λ l. length l) c.deref.ensures.value,
     ) in
-    ap Some (c.in_ok-run.ensures ∙ ap (named rs) c.deref-2.ensures.value)
+    ap Some (c.in_ok-run.ensures ∙ ap (records_at rs) c.deref-2.ensures.value)
     ∙ sym (next_run rs orders given order within
     (c.in-Some.ensures.lookup.1 ∙ ap (λ l. get_or l given order) c.deref.ensures.value))
     ∙ ap (λ l. slice_get l 0) c.self.view_is
