@@ -105,7 +105,7 @@ def many(store: Store) -> None:
     with store.transaction() as tx:
         wanted("a load", tx.load(rows, run=700), len(rows))
         wanted("a key that is there", raised(tiuvrokk.Exists, lambda: tx.load({"k00007": "x", "k00005": "x"})).key, b"k00005")
-        wanted("a key twice", raised(tiuvrokk.NotRising, lambda: tx.load([("x", "1"), ("a", "1"), ("x", "2")])).key, b"x")
+        wanted("a key twice", raised(tiuvrokk.Twice, lambda: tx.load([("x", "1"), ("a", "1"), ("x", "2")])).key, b"x")
     right = sorted(rows.items())
     with store.transaction() as tx:
         wanted("all", (list(tx.items()), list(tx), dict(tx), len(tx)), (right, [key for key, _ in right], rows, len(rows)))

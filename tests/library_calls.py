@@ -247,7 +247,7 @@ def main(calls: int, seed: int) -> None:
         expect(tiuvrokk.Bad, second.get, b"x" * 33)
         expect(ValueError, second.insert, b"x", b"x" * 65)
         expect(tiuvrokk.Bad, second.load, [(b"x", b"x" * 65)])
-        expect(tiuvrokk.NotRising, second.load, [(b"xx", b"1"), (b"xx", b"2")])
+        expect(tiuvrokk.Twice, second.load, [(b"xx", b"1"), (b"xx", b"2")])
         expect(tiuvrokk.Bad, second.scan, b"b", b"a")
         expect(tiuvrokk.NoMark, second.back)
     expect(tiuvrokk.Closed, second.get, b"b")

@@ -149,8 +149,7 @@ def check_errors() -> None:
     tell(tiuvrokk.Busy, lambda: other["bee"], "transaction 1 holds a lock that is in the way", "TVK_BUSY", busy)
     tell(tiuvrokk.NoMark, one.back, "transaction 1 has no savepoint", "TVK_NO_MARK", {"transaction": 1})
     twice = [("b", "1"), ("a", "1"), ("b", "2")]
-    text = "the key b stands twice among the records"
-    tell(tiuvrokk.NotRising, lambda: one.load(twice), text, "TVK_NOT_RISING", {"key": b"b"})
+    tell(tiuvrokk.Twice, lambda: one.load(twice), "the key b stands twice", "TVK_TWICE", {"key": b"b"})
     many = [store.transaction() for _ in range(62)]
     text = "there are 64 transactions that are active at once, and may be no more: commit or abort one"
     about = {"limit": 64, "what": "transactions that are active at once"}

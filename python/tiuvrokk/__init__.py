@@ -35,15 +35,16 @@ from ._library import upkeep
 from ._store import Figures, Store, Transaction
 from ._wire import Active
 from .errors import (
-    MAX_KEY, MAX_LIMIT, MAX_VALUE, Absent, Bad, BadLine, Busy, Closed, Conflict, Error, Exists, Held, Lapsed, NoMark, NotRising,
+    MAX_KEY, MAX_LIMIT, MAX_VALUE, Absent, Bad, BadLine, Busy, Closed, Conflict, Error, Exists, Held, Lapsed, NoMark,
     NoTransaction, OutOfMemory, Refused, Status, TooMany, Twice, Unknown, Unreachable, WrongThread,
 )
+from .errors import NotRising as NotRising  # what `Twice` was called before
 
 __version__ = "1.1.0"
 
 __all__ = [
     "MAX_KEY", "MAX_VALUE", "MAX_LIMIT", "Store", "Transaction", "Figures", "connect", "Client", "RemoteTransaction", "Active", "upkeep", "Status",
-    "Error", "Absent", "Exists", "Busy", "NoTransaction", "NoMark", "TooMany", "NotRising", "Twice", "Bad", "BadLine", "Closed",
+    "Error", "Absent", "Exists", "Busy", "NoTransaction", "NoMark", "TooMany", "Twice", "Bad", "BadLine", "Closed",
     "OutOfMemory", "Refused", "Conflict", "Unreachable", "Unknown", "Held", "Lapsed", "WrongThread",
 ]
 

@@ -19,7 +19,7 @@ from ._mapping import MAX_PAGE, MAX_ROWS, MAX_TRIES, RUN, Mapped, Runner, first_
 from ._records import GREATEST, Record, Records, Text, double_line, first_double, line_runs, range_of, runs_of
 from ._wire import GREATEST_KEY, KEY, LAPSED, LEAST_KEY, RECORDS, VALUE, Path, Wire, below_key, ends_of, key_of, number_of, refusal
 from ._wire import Active, actives_of, rows_of, value_of
-from .errors import MAX_LIMIT, Absent, Closed, Conflict, Error, Exists, NotRising, NoTransaction, OutOfMemory, Refused
+from .errors import MAX_LIMIT, Absent, Closed, Conflict, Error, Exists, NoTransaction, OutOfMemory, Refused, Twice
 from .errors import Unknown, Unreachable, WrongThread, bad_limit, bad_range, bad_text
 
 Default = TypeVar("Default")
@@ -147,7 +147,7 @@ class Client(Runner["RemoteTransaction"]):
             text = file.read()
         try:
             return self._loaded(lambda tx: tx._load_runs(line_runs(io.BytesIO(text), _run(run))), hold)
-        except (Exists, NotRising) as error:
+        except (Exists, Twice) as error:
             raise double_line(io.BytesIO(text), error.key) or error from None
 
     def _loaded(self, load: Callable[[RemoteTransaction], int], hold: int) -> int:
@@ -438,7 +438,7 @@ class RemoteTransaction(Mapped):
         """Adds the records of a mapping, or pairs, in any order, cut into runs of at most `run` records, each sorted and added
         as a whole. Answers how many records were added.
 
-        Raises `Exists`, with the least key of the run that has a record, and `NotRising` where a run has a key twice. The
+        Raises `Exists`, with the least key of the run that has a record, and `Twice` where a run has a key twice. The
         run that was refused isn't added, and those before it stay: set a savepoint first, or abort, to be rid of them. Each
         run is locked, and all keys are where there are more than 255."""
         self._look()
@@ -458,8 +458,8 @@ class RemoteTransaction(Mapped):
         last = self._staged(records, b"LOAD")
         try:
             answer = self._send([last])[-1]
-        except NotRising:
-            raise NotRising(first_double(records)) from None
+        except Twice:
+            raise Twice(first_double(records)) from None
         if answer != b"OK":
             raise refusal(answer, last, self._number)
 

@@ -18,7 +18,7 @@ from ._library import Call, Counts, Handle, Number, calls, holding_calls
 from ._mapping import MAX_PAGE, MAX_ROWS, RUN, Mapped, Runner, first_page, limited, most_of
 from ._records import GREATEST, SIZES, Key, Page, Place, Record, Records, Text, Value, bad_line, below, bytes_of, double_line
 from ._records import first_double, layout_of, lent, line_runs, packed, plain_text, range_of, runs_of, text_of
-from .errors import MAX_LIMIT, Absent, Bad, Closed, Exists, NotRising, Status, Twice, WrongThread, bad_limit, bad_range, error_of
+from .errors import MAX_LIMIT, Absent, Bad, Closed, Exists, Status, Twice, WrongThread, bad_limit, bad_range, error_of
 
 Default = TypeVar("Default")
 Row = TypeVar("Row")
@@ -178,7 +178,7 @@ class Store(Runner["Transaction"]):
                 return tx._load_text(file.read())
             try:
                 return tx._load_runs(line_runs(file, run))
-            except (Exists, NotRising) as error:
+            except (Exists, Twice) as error:
                 if not file.seekable():
                     raise
                 file.seek(0)
@@ -382,7 +382,7 @@ class Transaction(Mapped):
         """Adds the records of a mapping, or pairs, in any order, cut into runs of at most `run` records, each sorted and added
         as a whole. Answers how many records were added.
 
-        Raises `Exists`, with the least key of the run that has a record, and `NotRising` where a run has a key twice. The
+        Raises `Exists`, with the least key of the run that has a record, and `Twice` where a run has a key twice. The
         run that was refused isn't added, and those before it stay: set a savepoint first, or abort, to be rid of them. Each
         run is locked, and all keys are where there are more than 255."""
         self._store._use()
@@ -508,8 +508,8 @@ class Transaction(Mapped):
         room = (ctypes.c_char * len(rows)).from_buffer(rows)
         try:
             status = self._ask(self._calls.load, Number(), room, ctypes.c_size_t(len(records)), exists)
-        except NotRising:
-            raise NotRising(first_double(records)) from None
+        except Twice:
+            raise Twice(first_double(records)) from None
         if status:
             raise Exists(text_of(exists))
 

@@ -9,8 +9,8 @@ from collections.abc import Sequence
 from typing import NamedTuple, Optional, Union
 
 from ._records import GREATEST, bytes_of
-from .errors import Absent, Bad, Busy, Conflict, Error, Exists, Held, Lapsed, NoMark, NotRising, NoTransaction, OutOfMemory
-from .errors import Refused, Status, TooMany, Unknown, Unreachable, bad_range, bad_text
+from .errors import Absent, Bad, Busy, Conflict, Error, Exists, Held, Lapsed, NoMark, NoTransaction, OutOfMemory
+from .errors import Refused, Status, TooMany, Twice, Unknown, Unreachable, bad_range, bad_text
 
 Path = Union[str, bytes, "os.PathLike[str]"]
 
@@ -93,7 +93,7 @@ def refusal(answer: bytes, line: bytes, transaction: int) -> Error:
     if answer in _LIMITS:
         return TooMany(_LIMITS[answer])
     if answer == b"ERR ORDER":
-        return NotRising(key)
+        return Twice(key)
     if answer == b"ERR MEMORY":
         return OutOfMemory()
     if answer == b"ERR LIMIT":

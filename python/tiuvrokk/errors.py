@@ -155,21 +155,8 @@ class TooMany(Error):
         return f"there are {self.limit} {self.what}, and may be no more: {self._advice}"
 
 
-class NotRising(Error):
-    """The records of a run have a key twice: `key`."""
-
-    status = Status.NOT_RISING
-
-    def __init__(self, key: bytes) -> None:
-        super().__init__(key)
-        self.key = key
-
-    def _text(self) -> str:
-        return f"the key {shown(self.key)} stands twice among the records"
-
-
 class Twice(Error):
-    """A key stands twice among what is to be loaded: `key`, the least such one."""
+    """A key stands twice among what is to be loaded or put: `key`, the least such one."""
 
     status = Status.TWICE
 
@@ -180,6 +167,9 @@ class Twice(Error):
     def _text(self) -> str:
         return f"the key {shown(self.key)} stands twice"
 
+
+# What it was called before, where a run of sorted records has a key twice.
+NotRising = Twice
 
 class Bad(Error, ValueError):
     """A length, a limit, a range or a mode is out of bounds."""
@@ -303,7 +293,7 @@ def error_of(status: int, transaction: int = 0, told: int = 0, texts: Sequence[b
         Status.BUSY: lambda: Busy(told),
         Status.NO_TX: lambda: NoTransaction(transaction),
         Status.NO_MARK: lambda: NoMark(transaction),
-        Status.NOT_RISING: lambda: NotRising(b""),
+        Status.NOT_RISING: lambda: Twice(b""),
         Status.TWICE: lambda: Twice(b""),
         Status.NO_MEMORY: OutOfMemory,
         Status.NO_STORE: Closed,
