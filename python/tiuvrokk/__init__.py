@@ -38,7 +38,9 @@ from .errors import (
     MAX_KEY, MAX_LIMIT, MAX_VALUE, Absent, Bad, BadLine, Busy, Closed, Conflict, Error, Exists, Held, Lapsed, NoMark,
     NoTransaction, OutOfMemory, Refused, Status, TooMany, Twice, Unknown, Unreachable, WrongThread,
 )
-from .errors import NotRising as NotRising  # what `Twice` was called before
+
+# What it was called before, where the records of a run have a key twice.
+NotRising = Twice
 
 __version__ = "1.1.0"
 

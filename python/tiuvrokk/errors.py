@@ -167,10 +167,6 @@ class Twice(Error):
     def _text(self) -> str:
         return f"the key {shown(self.key)} stands twice"
 
-
-# What it was called before, where a run of sorted records has a key twice.
-NotRising = Twice
-
 class Bad(Error, ValueError):
     """A length, a limit, a range or a mode is out of bounds."""
 

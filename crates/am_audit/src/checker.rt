@@ -1,17 +1,17 @@
 //! The audit of a trace, event by event.
 
-ghost use Rattle.std.specs.Prelude.{◌≡◌, ◌==◌, ℕ, not, map, filter, [], None, true, false, IfErr, IfOk, OnOk};
+ghost use Rattle.std.specs.Prelude.{◌≡◌, ◌==◌, ℕ, not, map, filter, [], None, Some, true, false, IfErr, IfOk, OnOk};
 ghost use Rattle.am_record.specs.declared.step.Step.TheVariants.{Begin, Do, Commit, Abort, Merge, Clean};
 ghost use Rattle.am_store_locks.specs.Table.{is_owner, without_owner};
 ghost use Rattle.am_law_serial.specs.Machine.{due_early, is_full};
-ghost use Rattle.am_audit_replies.specs.OwnAnswers.{listed};
+ghost use Rattle.am_audit_replies.specs.OwnAnswers.{listed, place_in};
 
 use crate::verdict::verdict;
 use am_audit_locks::HeldLocks;
 use am_audit_replies::{
     Active, EventFault, OwnAnswer, forget, is_active, is_early, is_full, is_refusal, is_refused,
     keep_answer, may_abort, may_begin, may_clean, may_commit, may_merge, operation_count,
-    own_answers, refusal, replay, runs_made,
+    own_answers, place_of, refusal, replay, runs_made,
 };
 use am_record::{NoMemory, Op, Range, Reply, Step};
 use am_record_model::Plain;
@@ -152,7 +152,8 @@ impl Checker {
         ensures most { self.new.most_runs ≡ self.old.most_runs }
     {
         let full = is_full(self.most_runs, self.runs, &reply);
-        if let Some(why) = refusal(operation_count(&self.active, tx), full, tx, &op) {
+        let place = place_of(&self.active, tx);
+        if let Some(why) = refusal(operation_count(&self.active, place), full, tx, &op) {
             if !is_refused(&reply, why) {
                 return Err(EventFault::Form);
             }
@@ -161,17 +162,26 @@ impl Checker {
         if is_early(&reply) {
             return Err(EventFault::Form);
         }
-        self.perform(position, tx, op, reply)
+        let Some(place) = place else { unreachable!() };
+        self.perform(position, tx, place, op, reply)
     }
 
     // The operation is one to which no early refusal is due.
-    fn perform(&mut self, position: usize, tx: u64, op: Op, reply: Reply) -> Result<(), EventFault>
+    fn perform(
+        &mut self,
+        position: usize,
+        tx: u64,
+        place: usize,
+        op: Op,
+        reply: Reply,
+    ) -> Result<(), EventFault>
         ghost at: { ℕ × Progress }
         requires stands { HasChecked self.old at.1 }
         requires position { position ≡ at.1.count }
         requires early { due_early (is_full at.0 at.1.state.runs reply) at.1.state tx op ≡ None }
         requires not_early { early_of reply ≡ false }
         requires most { self.old.most_runs ≡ at.0 }
+        requires place { place_in self.old.active.items tx ≡ Some place }
         ensures takes { OnOk result (TakesEvent at.0 at.1 (Do tx op) reply self.new) }
         ensures event_fault { IfErr result (IsEventFault at.0 at.1 (Do tx op) reply) }
         ensures most { self.new.most_runs ≡ self.old.most_runs }
@@ -187,7 +197,7 @@ impl Checker {
         let made = runs_made(&mut self.committed, &self.active, tx, &op, &reply)?;
         keep_answer(
             &mut self.active,
-            tx,
+            place,
             OwnAnswer {
                 position,
                 op,

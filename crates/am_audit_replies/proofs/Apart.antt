@@ -13,7 +13,7 @@ use Rattle.am_record.specs.Plain.{PlainMap, Draft, fresh, draft_after, is_orderl
 use Rattle.am_record.proofs.KeyOrder.{key_le_trans}
 use Rattle.am_law_serial.specs.Agreement.{Has}
 use Rattle.am_law_serial.specs.Trace.{runs_made}
-use Rattle.am_law_serial.proofs.Maps.{of_asked, reads, writes, runs_made_local}
+use Rattle.am_law_serial.proofs.Maps.{of_asked, writes, runs_made_local}
 use Rattle.am_law_serial.proofs.Drafts.{fresh_has, still_has}
 use Rattle.am_audit_replies.specs.declared.active.OwnAnswer.{OwnAnswer}
 use Rattle.am_audit_replies.specs.OwnAnswers.{placed_answer, left_by_all}

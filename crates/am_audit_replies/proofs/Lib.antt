@@ -3,3 +3,4 @@ pub mod Actives
 mod Replays
 mod Trials
 mod Apart
+mod Places

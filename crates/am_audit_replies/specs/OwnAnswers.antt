@@ -1,5 +1,6 @@
 -- The answered operations of the active transactions of a trace, with their places in it.
-use Rattle.std.specs.Prelude.{◌≡◌, ◌≢◌, ℕ, ◌==◌, map, List, [], ◌∷◌, ◌++◌, Bool, cond}
+use Rattle.std.specs.Prelude.{◌≡◌, ◌≢◌, ℕ, ◌==◌, map, List, [], ◌∷◌, ◌++◌, Bool, cond, Option}
+use Rattle.std.specs.List.{position}
 use Rattle.am_record.specs.ByNumber.{has_number, of_number}
 use Rattle.am_record.specs.Plain.{Draft, answer, answers_on, left_on}
 use Rattle.am_record.specs.declared.step.Op.{Op}
@@ -31,6 +32,10 @@ listed x = (x.number, map placed_answer x.own.items)
 
 abbrev pub is_listed : List Listed → ℕ → Bool
 is_listed xs t = has_number (λ (x : Listed). x.0) xs t
+
+-- where it stands, if it is active
+abbrev pub place_in : List Active → ℕ → Option ℕ
+place_in all t = position (λ (x : Active). x.number == t) all
 
 -- the operations of that transaction, none where it isn't listed
 abbrev pub own_in : List Listed → ℕ → List PlacedAnswer

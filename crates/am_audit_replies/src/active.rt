@@ -1,7 +1,8 @@
 //! The active transactions of a trace.
 
-ghost use Rattle.std.specs.Prelude.{◌≡◌, ◌==◌, not, map, filter, length, true, false, [], IfSome, IfNone, IfOk, OnOk};
-ghost use Rattle.am_audit_replies.specs.OwnAnswers.{listed, is_listed, own_in, placed_answer, with_own};
+ghost use Rattle.std.specs.Prelude.{◌≡◌, ◌==◌, ◌<◌, ℕ, not, map, filter, length, true};
+ghost use Rattle.std.specs.Prelude.{false, [], IfSome, IfNone, IfOk, OnOk, Some};
+ghost use Rattle.am_audit_replies.specs.OwnAnswers.{listed, is_listed, place_in, own_in, placed_answer, with_own};
 
 use am_record::{NoMemory, Op, Reply};
 use std::alloc::Global;
@@ -69,29 +70,38 @@ pub fn own_answers(all: &[Active], tx: u64) -> Option<&[OwnAnswer]>
     None
 }
 
-/// How many operations of the transaction were answered, where it is active.
-pub fn operation_count(all: &[Active], tx: u64) -> Option<usize>
-    ensures found { IfSome result (λ n. (is_listed (map listed all.now) tx ≡ true) ×
-        (n ≡ length (own_in (map listed all.now) tx))) }
+/// Where the transaction stands among the active ones, where it is one.
+pub fn place_of(all: &[Active], tx: u64) -> Option<usize>
+    ensures place { result ≡ place_in all.now tx }
+    ensures inside { IfSome result (λ p. p < length all.now) }
     ensures none { IfNone result (is_listed (map listed all.now) tx ≡ false) }
 {
-    match own_answers(all, tx) {
-        Some(own) => Some(own.len()),
+    all.iter().position(|active| active.number == tx)
+}
+
+/// How many operations were answered of a transaction that stands there.
+pub fn operation_count(all: &[Active], place: Option<usize>) -> Option<usize>
+    requires { IfSome place (λ p. p < length all.now) }
+    ensures found { IfSome result (λ n. (tx : ℕ) → place ≡ place_in all.now tx →
+        (is_listed (map listed all.now) tx ≡ true) × (n ≡ length (own_in (map listed all.now) tx))) }
+    ensures none { IfNone result ((tx : ℕ) → place ≡ place_in all.now tx →
+        is_listed (map listed all.now) tx ≡ false) }
+{
+    match place {
+        Some(place) => Some(all[place].own.len()),
         None => None,
     }
 }
 
-/// Keeps one more answered operation of the transaction, where it is active.
-pub fn keep_answer(all: &mut [Active], tx: u64, kept: OwnAnswer) -> Result<(), NoMemory>
-    ensures { OnOk result (map listed all.new ≡ with_own tx (placed_answer kept) (map listed all.old)) }
+/// Keeps one more answered operation of the transaction that stands there.
+pub fn keep_answer(all: &mut [Active], place: usize, kept: OwnAnswer) -> Result<(), NoMemory>
+    requires { place < length all.old }
+    ensures { OnOk result ((tx : ℕ) → place_in all.old tx ≡ Some place →
+        map listed all.new ≡ with_own tx (placed_answer kept) (map listed all.old)) }
 {
-    for active in all.iter_mut() {
-        if active.number == tx {
-            active.own.reserve(1)?;
-            active.own.push_reserved(kept);
-            return Ok(());
-        }
-    }
+    let own = &mut all[place].own;
+    own.reserve(1)?;
+    own.push_reserved(kept);
     Ok(())
 }
 

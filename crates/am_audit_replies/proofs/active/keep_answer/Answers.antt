@@ -1,19 +1,16 @@
-use Rattle.std.proofs.Common.{List, ◌∷◌, ◌++◌, [], map, refl, sym, ap, ◌∙◌}
+use Rattle.std.proofs.Common.{List, ◌∷◌, ◌++◌, [], map, get_or, refl, ap, ◌∙◌}
 use Rattle.std.proofs.lemmas.List.{map-append}
-use Rattle.am_audit_replies.specs.declared.active.Active.{Active}
 use Rattle.am_audit_replies.specs.declared.active.OwnAnswer.{OwnAnswer}
 use Rattle.am_audit_replies.specs.OwnAnswers.{placed_answer}
-use Rattle.am_audit_replies.proofs.Actives.{kept_here}
+use Rattle.am_audit_replies.proofs.Places.{place_is, answered_there}
 use Rattle.am_audit_replies.proofs.active.keep_answer.Goals as goal
 
-pub returns-then-active-tx : goal.returns-then-active-tx
-returns-then-active-tx c =
-    kept_here c.args.tx (placed_answer c.args.kept) c.args.all.now c.loop-active.all _ c.loop-active.active-index
-    c.active-item.result _ c.loop-active-test.true c.loop-active.invariant c.active-item.is
-    (ap (λ (x : Active). x.number) c.active-item.is ∙ c.if-active-tx.true) refl
-    (let number = ap (λ (x : Active). x.number) (sym c.active-item.is) in
+pub returns : goal.returns
+returns c tx asked =
+    let at = place_is tx c.args.all.now c.args.place asked in
     let own = ap (map placed_answer) (c.push_reserved.ensures.items ∙
-    ap (λ (own : List OwnAnswer). own ++ c.args.kept ∷ []) c.reserve.ensures.items ∙
-    ap (λ (x : Active). x.own.items ++ c.args.kept ∷ [])
-    (sym c.active-item.is)) ∙ map-append placed_answer c.active-item.result.own.items (c.args.kept ∷ []) in
-    λ i. (number i, own i))
+    ap (λ (own : List OwnAnswer). own ++ c.args.kept ∷ []) c.in_ok-reserve.ensures.items)
+    ∙ map-append placed_answer (get_or c.args.all.now c.args.place c.index-all-place.result).own.items
+    (c.args.kept ∷ []) in
+    answered_there tx (placed_answer c.args.kept) c.args.all.now c.args.place c.index-all-place.result _ at.0 at.1
+    refl own

@@ -3,7 +3,7 @@ use Rattle.std.specs.Prelude.{◌^◌}
 use Rattle.std.proofs.lemmas.Result.{on_ok_weaker}
 use Rattle.am_law_serial.specs.Trace.{runs_made}
 use Rattle.am_law_serial.specs.Machine.{view}
-use Rattle.am_audit_replies.specs.OwnAnswers.{listed, with_own}
+use Rattle.am_audit_replies.specs.OwnAnswers.{listed, place_in, with_own}
 use Rattle.am_audit_replies.proofs.Actives.{items_kept}
 use Rattle.am_audit.proofs.Bodies.{listed_open}
 use Rattle.am_audit.proofs.Performs.{takes_refused, takes_answer, made_fits, made_by, open_of_none}
@@ -31,7 +31,9 @@ returns-clause-takes g c =
     refl refl (ap (λ n. c.args.self.now.runs + n) (made_by _ c.args.self.now g.at.1 c.requires.0 c.args.tx c.args.op
     c.args.reply c.requires.1.1.0 _ c.deref.ensures.value _ c.in_ok-made.ensures.made))
     (ap (map listed) (items_kept c.args.self.now.active c.keep_answer.new.all c.deref_mut.result.now
-    c.deref_mut.ensures.value c.keep_answer.auto.all) ∙ c.in_ok-keep_answer.ensures ∙ ap (λ all. with_own c.args.tx
+    c.deref_mut.ensures.value c.keep_answer.auto.all) ∙ c.in_ok-keep_answer.ensures c.args.tx
+    (ap (λ all. place_in all c.args.tx) c.deref_mut.ensures.value ∙ c.requires.1.1.1.1.1) ∙
+    ap (λ all. with_own c.args.tx
     (c.args.position, (c.args.op, c.args.reply)) (map listed all)) c.deref_mut.ensures.value)
     (c.ask-asked.ensures.granted (c.in_default.ensures.granted answered)) c.in_ok-made.ensures.same
 
@@ -39,7 +41,7 @@ pub overflow_add-self : goal.overflow_add-self
 overflow_add-self g c =
     let most : c.args.self.now.most_runs < 2 ^ 32 = search rules in
     let few : c.args.self.now.runs < 2 ^ 32 = search rules in
-    let is = c.requires.1.1.1.1 in
+    let is = c.requires.1.1.1.1.0 in
     let counted = c.requires.0.runs in
     let fits = made_fits g.at.0 g.at.1.state.runs (2 ^ 32) g.at.1.state c.args.tx (view g.at.1.state c.args.tx).map
     c.args.op c.args.reply c.requires.1.1.0 (omega (arith, most, is)) (omega (arith, few, counted)) in
