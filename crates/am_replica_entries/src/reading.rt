@@ -111,7 +111,7 @@ fn blocks_of(alloc: Global, count: u32, bytes: &[u8]) -> Result<(Vec<Block>, &[u
     Ok((found, rest))
 }
 
-#[tactic(auto, unfolding(crate::specs::Reading::entry_at))]
+#[tactic(auto, unfolding(crate::specs::Reading::entry_in))]
 fn entry_of(alloc: Global, text: &[u8]) -> Result<Vec<Block>, ReadError>
     ensures { Gives (λ v. the_blocks v.items) result (entry_in text.now) }
 {
