@@ -150,13 +150,13 @@ pub(crate) fn stop_at_word<
 /// Serves so many sessions, or so many at once until a stop, with so many workers beside them, on a store whose hash
 /// key no stranger knows.
 #[inline(never)]
-pub(crate) fn serve<R: AllocGlobal + Threads + Wait + RandomSource + Clock + Eprint + Sync>(
-    rt: &R,
+pub(crate) fn serve<'a, R: AllocGlobal + Threads + Wait + RandomSource + Clock + Eprint + Sync>(
+    rt: &'a R,
     listener: &Listener,
     listening: &Listening<'_>,
     sessions: u64,
     workers: u64,
-    outbox: &Outbox,
+    outbox: &'a Outbox,
     writer: Option<Writer<'_, R>>,
 ) -> Result<Served, ListenFault>
     requires sessions { (1 ≤ sessions) × (sessions ≤ 256) }
@@ -169,15 +169,16 @@ pub(crate) fn serve<R: AllocGlobal + Threads + Wait + RandomSource + Clock + Epr
 }
 
 fn serve_with<
+    'a,
     R: AllocGlobal + Threads + Wait + RandomSource + Clock + Eprint + Sync,
     T: PieceTaker + Drop + Send,
 >(
-    rt: &R,
+    rt: &'a R,
     listener: &Listener,
     listening: &Listening<'_>,
     sessions: u64,
     workers: u64,
-    outbox: &Outbox,
+    outbox: &'a Outbox,
     pieces: T,
 ) -> Result<Served, ListenFault>
     requires sessions { (1 ≤ sessions) × (sessions ≤ 256) }
