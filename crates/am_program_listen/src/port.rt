@@ -150,13 +150,13 @@ pub(crate) fn stop_at_word<
 /// Serves so many sessions, or so many at once until a stop, with so many workers beside them, on a store whose hash
 /// key no stranger knows.
 #[inline(never)]
-pub(crate) fn serve<'a, R: AllocGlobal + Threads + Wait + RandomSource + Clock + Eprint + Sync>(
-    rt: &'a R,
+pub(crate) fn serve<R: AllocGlobal + Threads + Wait + RandomSource + Clock + Eprint + Sync>(
+    rt: &R,
     listener: &Listener,
     listening: &Listening<'_>,
     sessions: u64,
     workers: u64,
-    outbox: &'a Outbox,
+    outbox: &Outbox,
     writer: Option<Writer<'_, R>>,
 ) -> Result<Served, ListenFault>
     requires sessions { (1 ≤ sessions) × (sessions ≤ 256) }
@@ -169,16 +169,15 @@ pub(crate) fn serve<'a, R: AllocGlobal + Threads + Wait + RandomSource + Clock +
 }
 
 fn serve_with<
-    'a,
     R: AllocGlobal + Threads + Wait + RandomSource + Clock + Eprint + Sync,
     T: PieceTaker + Drop + Send,
 >(
-    rt: &'a R,
+    rt: &R,
     listener: &Listener,
     listening: &Listening<'_>,
     sessions: u64,
     workers: u64,
-    outbox: &'a Outbox,
+    outbox: &Outbox,
     pieces: T,
 ) -> Result<Served, ListenFault>
     requires sessions { (1 ≤ sessions) × (sessions ≤ 256) }
