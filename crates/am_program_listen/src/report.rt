@@ -26,9 +26,9 @@ fn is_due(is_logged: bool, is_last: bool, past: u64) -> bool
 /// Says once what goes wrong, and each minute and at the end how the server does, where that is asked for. What becomes
 /// of a bounded server is said at its end.
 #[derive(Drop)]
-pub struct Reporter<'a, R> {
-    rt: &'a R,
-    outbox: &'a Outbox,
+pub struct Reporter<'r, 'o, R> {
+    rt: &'r R,
+    outbox: &'o Outbox,
     is_logged: bool,
     stays: bool,
     told_at: Option<Instant>,
@@ -36,9 +36,9 @@ pub struct Reporter<'a, R> {
     told_cut: bool,
 }
 
-impl<'a, R: AllocGlobal + Eprint + Clock + Wait> Reporter<'a, R> {
+impl<'r, 'o, R: AllocGlobal + Eprint + Clock + Wait> Reporter<'r, 'o, R> {
     /// Nothing is told yet. Of a bounded server it isn't said that its trace is cut.
-    pub fn new(rt: &'a R, outbox: &'a Outbox, listening: &Listening<'_>) -> Reporter<'a, R>
+    pub fn new(rt: &'r R, outbox: &'o Outbox, listening: &Listening<'_>) -> Reporter<'r, 'o, R>
         ensures logged { result.is_logged ≡ listening.now.is_logged }
         ensures stays { result.stays ≡ listening.now.stays }
         ensures told { (result.told_accept ≡ false) × (result.told_cut ≡ not listening.now.stays) }
@@ -95,7 +95,7 @@ impl<'a, R: AllocGlobal + Eprint + Clock + Wait> Reporter<'a, R> {
     }
 }
 
-impl<'a, R: AllocGlobal + Eprint + Clock + Wait> Watcher for Reporter<'a, R> {
+impl<'r, 'o, R: AllocGlobal + Eprint + Clock + Wait> Watcher for Reporter<'r, 'o, R> {
     ghost saw = { λ _ _ _ _. Unit {0} };
 
     fn look(&mut self, counts: &ServerCounts, is_last: bool) {
