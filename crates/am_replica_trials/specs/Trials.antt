@@ -1,5 +1,6 @@
 -- A transaction over texts, in trials.
-use Rattle.std.specs.Prelude.{◌≡◌, ◌⊎◌, ◌≤◌, ℕ, ◌+◌, ◌*◌, nat_le, length, List, [], ◌∷◌, ◌++◌, Bool, true, false}
+use Rattle.std.specs.Prelude.{◌≡◌, ◌⊎◌, ◌≤◌, ℕ, ◌+◌, ◌*◌, nat_le, length, List, [], ◌∷◌, ◌++◌, Bool, true, false, refl}
+use Rattle.std.specs.Coded.{Coded, code_by, coded×, coded_ℕ, coded_bool, coded_list}
 use Rattle.am_record.specs.Plain.{PlainMap}
 use Rattle.am_record.specs.Records.{Records}
 use Rattle.am_record.specs.declared.step.Op.{Op}
@@ -8,12 +9,12 @@ use Rattle.am_line_source.specs.Lines.{line_of, lines_of}
 use Rattle.am_line_wire.specs.declared.request.Request.TheVariants.{Do, Stage}
 use Rattle.am_line_dialogue.specs.Actions.{with_staged, stage_response}
 use Rattle.am_line_dialogue.specs.ParsedLine.{parsed}
-use Rattle.am_line_dialogue.specs.Session.{SessionState}
+use Rattle.am_line_dialogue.specs.Session.{SessionState, session_code}
 use Rattle.am_line_dialogue.specs.declared.lines.ParsedLine.TheVariants.{Asked}
 use Rattle.am_line_dialogue.specs.declared.response.Response.{Response}
 use Rattle.am_replica.specs.Bodies.{kept_ops}
 use Rattle.am_replica.specs.Ordered.{Sum}
-use Rattle.am_replica.specs.Told.{TransactionState, still_stands, behind_lines, untold}
+use Rattle.am_replica.specs.Told.{TransactionState, transaction_code, still_stands, behind_lines, untold}
 use Rattle.am_replica_blocks.specs.Blocks.{BlockLine, Asks, Stages, waiting, asked_ops}
 use Rattle.am_replica_lines.specs.Lines.{said, asked_by, is_own, at_work}
 use Rattle.am_replica_trials.specs.declared.answer.TrialAnswer.{TrialAnswer}
@@ -27,6 +28,22 @@ pub record TrialState : Type 0 where
   pub answered : ℕ
   pub is_over : Bool
 
+abbrev pub trial_code : Coded TrialState
+trial_code = code_by (TransactionState × (SessionState × (List ℕ × (ℕ × Bool))))
+    (coded× transaction_code (coded× session_code (coded× (coded_list coded_ℕ) (coded× coded_ℕ coded_bool))))
+    (λ t. (t.transaction, (t.session, (t.lines, (t.answered, t.is_over)))))
+    (λ p. record {
+      transaction = p.0;
+      session = p.1.0;
+      lines = p.1.1.0;
+      answered = p.1.1.1.0;
+      is_over = p.1.1.1.1;
+    }) (λ _. refl)
+
+-- the most bytes of a block's lines, each counted with 100 more
+abbrev pub max_lines_len : ℕ
+max_lines_len = 64000000
+
 -- these are its lines: whole ones, which asked for its operations, and have these records wait
 pub record HasLines (own : List BlockLine) (s : TrialState) : Type 0 where
   pub asks : said s.lines ≡ asked_by own
@@ -34,12 +51,12 @@ pub record HasLines (own : List BlockLine) (s : TrialState) : Type 0 where
   pub each : s.answered ≡ length own
   pub ops : s.transaction.ops ≡ kept_ops (asked_ops [] own)
   pub waits : s.session ≡ at_work (waiting [] own)
-  pub few : length s.lines + 99 * s.answered ≤ 64000000
+  pub few : length s.lines + 99 * s.answered ≤ max_lines_len
   pub over : s.is_over ≡ s.transaction.is_over
 
 -- whether the block has room for one more
 abbrev pub has_room : TrialState → List ℕ → Bool
-has_room s line = nat_le (length s.lines + 99 * s.answered + length line + 100) 64000000
+has_room s line = nat_le (length s.lines + 99 * s.answered + length line + 100) max_lines_len
 
 -- the operation that a line asks for, with what waits
 abbrev pub whole_op : List BlockLine → Op → List Op

@@ -20,6 +20,7 @@ use am_replica::{Digest, Machine, Transaction, TrialFault};
 use am_replica_entries::{Block, Told};
 use am_replica_lines::parse_cut;
 use std::alloc::Global;
+use std::marker::Model;
 
 /// The most bytes of a block's lines, each counted with 100 more.
 const MAX_LINES_LEN: usize = 64_000_000;
@@ -27,11 +28,27 @@ const MAX_LINES_LEN: usize = 64_000_000;
 /// A transaction: what it was told, the records that wait, and the lines that were answered.
 #[derive(Drop)]
 pub struct LineTransaction {
-    pub transaction: Transaction,
-    pub session: Session,
-    pub lines: Vec<u8>,
-    pub answered: u32,
-    pub is_over: bool,
+    transaction: Transaction,
+    session: Session,
+    lines: Vec<u8>,
+    answered: u32,
+    is_over: bool,
+}
+
+impl Model for LineTransaction {
+    ghost use Rattle.am_replica_trials.specs.Trials.{TrialState, trial_code};
+
+    ghost Value = { TrialState };
+
+    ghost coded = { trial_code };
+
+    ghost view = { λ t. record {
+      transaction = t.transaction;
+      session = t.session;
+      lines = t.lines.items;
+      answered = t.answered;
+      is_over = t.is_over;
+    } };
 }
 
 impl LineTransaction {
@@ -40,13 +57,7 @@ impl LineTransaction {
     /// # Errors
     /// NoMemory, where memory was refused.
     pub fn new<D: Digest>(alloc: Global, digest: &D) -> Result<LineTransaction, NoMemory>
-        ensures { IfOk result (λ t. HasLines [] (record {
-          transaction = t.transaction;
-          session = t.session;
-          lines = t.lines.items;
-          answered = t.answered;
-          is_over = t.is_over;
-        })) }
+        ensures { IfOk result (λ t. HasLines [] t) }
     {
         let transaction = Transaction::new(alloc, digest)?;
         let mut session = Session::new(alloc);
@@ -75,26 +86,9 @@ impl LineTransaction {
         requires one { HasNoLf line.now }
         ensures idle { OnOk result (M.idle machine.new) }
         ensures same { OnOk result (M.map machine.new ≡ M.map machine.old) }
-        ensures answered { (own : List BlockLine) → HasLines own (record {
-          transaction = self.old.transaction;
-          session = self.old.session;
-          lines = self.old.lines.items;
-          answered = self.old.answered;
-          is_over = self.old.is_over;
-        }) →
-            IfOk result (λ answer. IsLineAnswered D.digest_of own (record {
-              transaction = self.old.transaction;
-              session = self.old.session;
-              lines = self.old.lines.items;
-              answered = self.old.answered;
-              is_over = self.old.is_over;
-            }) line.now (M.map machine.old) answer (record {
-              transaction = self.new.transaction;
-              session = self.new.session;
-              lines = self.new.lines.items;
-              answered = self.new.answered;
-              is_over = self.new.is_over;
-            })) }
+        ensures answered { (own : List BlockLine) → HasLines own self.old →
+            IfOk result (λ answer.
+            IsLineAnswered D.digest_of own self.old line.now (M.map machine.old) answer self.new) }
     {
         match parse_cut(alloc, line) {
             ParsedLine::Asked(Request::Do(op)) => {
@@ -128,16 +122,10 @@ impl LineTransaction {
     /// # Errors
     /// NoMemory, where memory was refused.
     pub fn into_block(self, alloc: Global) -> Result<Block, NoMemory>
-        ensures read { (own : List BlockLine) → HasLines own (record {
-          transaction = self.transaction;
-          session = self.session;
-          lines = self.lines.items;
-          answered = self.answered;
-          is_over = self.is_over;
-        }) →
+        ensures read { (own : List BlockLine) → HasLines own self →
             waiting [] own ≡ [] → IfOk result (λ entry. AsksOps entry.lines.items (told_lines entry.told)
             (asked_ops [] own) (length (asked_ops [] own))) }
-        ensures lines { IfOk result (λ entry. entry.lines.items ≡ self.lines.items) }
+        ensures lines { IfOk result (λ entry. entry.lines.items ≡ self.lines) }
         ensures none { self.answered ≡ 0 → IfOk result (λ entry. entry.told ≡ None) }
         ensures told { 0 < self.answered → IfOk result (λ entry. entry.told ≡
             Some (record { lines = self.answered; digest = self.transaction.digest })) }
@@ -169,34 +157,11 @@ impl LineTransaction {
         requires few { self.old.answered < 2 ^ 31 }
         ensures idle { OnOk result (M.idle machine.new) }
         ensures same { OnOk result (M.map machine.new ≡ M.map machine.old) }
-        ensures answered { (own : List BlockLine) → HasLines own (record {
-          transaction = self.old.transaction;
-          session = self.old.session;
-          lines = self.old.lines.items;
-          answered = self.old.answered;
-          is_over = self.old.is_over;
-        }) →
-            has_room (record {
-              transaction = self.old.transaction;
-              session = self.old.session;
-              lines = self.old.lines.items;
-              answered = self.old.answered;
-              is_over = self.old.is_over;
-            }) line.now ≡ true →
+        ensures answered { (own : List BlockLine) → HasLines own self.old →
+            has_room self.old line.now ≡ true →
             parsed (line_of line.now) ≡ Asked (Request.Do op) →
-            IfOk result (λ answer. IsLineAnswered D.digest_of own (record {
-              transaction = self.old.transaction;
-              session = self.old.session;
-              lines = self.old.lines.items;
-              answered = self.old.answered;
-              is_over = self.old.is_over;
-            }) line.now (M.map machine.old) answer (record {
-              transaction = self.new.transaction;
-              session = self.new.session;
-              lines = self.new.lines.items;
-              answered = self.new.answered;
-              is_over = self.new.is_over;
-            })) }
+            IfOk result (λ answer.
+            IsLineAnswered D.digest_of own self.old line.now (M.map machine.old) answer self.new) }
     {
         let whole = [taken(&mut self.session, op)?];
         let told = self.transaction.trial(alloc, machine, digest, &whole);
@@ -218,8 +183,7 @@ impl LineTransaction {
 
     // Whether the block has room for the line.
     fn has_room(&self, line: &[u8]) -> bool
-        ensures { result ≡ nat_le (length self.now.lines.items + 99 * self.now.answered + length line.now + 100)
-            64000000 }
+        ensures { result ≡ has_room self.now line.now }
     {
         let counted = 99 * (self.answered as usize) + 100;
         let bytes = self.lines.len().saturating_add(line.len());
@@ -229,7 +193,7 @@ impl LineTransaction {
     // Keeps a line that was answered.
     fn keep(&mut self, line: &[u8]) -> Result<(), NoMemory>
         requires { self.old.answered < 2 ^ 31 }
-        ensures lines { OnOk result (self.new.lines.items ≡ self.old.lines.items ++ (line.now ++ 10 ∷ [])) }
+        ensures lines { OnOk result (self.new.lines ≡ self.old.lines ++ (line.now ++ 10 ∷ [])) }
         ensures answered { OnOk result (self.new.answered ≡ self.old.answered + 1) }
         ensures transaction { self.new.transaction ≡ self.old.transaction }
         ensures session { self.new.session ≡ self.old.session }

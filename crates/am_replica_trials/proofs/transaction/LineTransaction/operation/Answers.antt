@@ -1,4 +1,4 @@
-use Rattle.std.proofs.Common.{◌≡◌, true, [], ◌∷◌, List, sym, ap, subst, ◌∙◌}
+use Rattle.std.proofs.Common.{◌≡◌, true, [], ◌∷◌, ◌++◌, ◌+◌, sym, ap, subst, ◌∙◌}
 use Rattle.am_record.specs.declared.step.Op.{Op}
 use Rattle.am_replica.specs.Told.{still_stands, behind_lines, untold}
 use Rattle.am_replica_blocks.specs.Blocks.{waiting}
@@ -12,26 +12,24 @@ returns-clause-answered g c own has room asks =
     let m = g.M.Machine.map c.args.machine.now in
     let old = c.args.self.now in
     let new = c.keep.new.self in
-    let s : TrialState = record {
-      transaction = old.transaction;
-      session = old.session;
-      lines = old.lines.items;
-      answered = old.answered;
-      is_over = old.is_over;
-    } in
-    let s' : TrialState = record {
-      transaction = new.transaction;
-      session = new.session;
-      lines = new.lines.items;
-      answered = new.answered;
-      is_over = new.is_over;
-    } in
+    let is = c.self.view_is in
+    let waits = ap (λ (s : TrialState). s.session) is ∙ has.waits in
+    let told = ap (λ (s : TrialState). s.transaction) is in
     let whole : c.in_ok-taken.field-0 ∷ [] ≡ whole_op own c.args.op =
-    ap (λ (op : Op). op ∷ []) (c.in_ok-taken.ensures.asks (waiting [] own) has.waits) in
+    ap (λ (op : Op). op ∷ []) (c.in_ok-taken.ensures.asks (waiting [] own) waits) in
     let kept = c.in_ok-keep-in-Ok.ensures in
-    replied digest own s s' c.args.line.now has c.requires.one room c.requires.not_over c.args.op m c.pop.new.self.items
+    replied digest own old new c.args.line.now has c.requires.one room c.requires.not_over c.args.op m
+    c.pop.new.self.items
     c.in-Some.reply asks
-    (subst (λ ops. still_stands digest old.transaction ops m ≡ true) whole c.in-Ok.ensures.stands)
-    (ap (λ ops. untold old.transaction ops m) (sym whole) ∙ sym c.in-Ok.ensures.answers ∙ c.in-Some.ensures.items)
-    (kept.transaction ∙ c.in-Ok.ensures.goes_on ∙ ap (λ ops. behind_lines digest old.transaction ops m) whole)
-    (kept.session ∙ c.in_ok-taken.ensures.left (waiting [] own) has.waits) kept.lines kept.answered kept.over
+    (subst (λ t. still_stands digest t (whole_op own c.args.op) m ≡ true) told
+    (subst (λ ops. still_stands digest c.self.inside.transaction ops m ≡ true) whole c.in-Ok.ensures.stands))
+    (ap (λ t. untold t (whole_op own c.args.op) m) (sym told)
+    ∙ ap (λ ops. untold c.self.inside.transaction ops m) (sym whole)
+    ∙ sym c.in-Ok.ensures.answers ∙ c.in-Some.ensures.items)
+    (kept.transaction ∙ c.in-Ok.ensures.goes_on
+    ∙ ap (λ ops. behind_lines digest c.self.inside.transaction ops m) whole
+    ∙ ap (λ t. behind_lines digest t (whole_op own c.args.op) m) told)
+    (kept.session ∙ c.in_ok-taken.ensures.left (waiting [] own) waits)
+    (kept.lines ∙ ap (λ (s : TrialState). s.lines ++ (c.args.line.now ++ 10 ∷ [])) is)
+    (kept.answered ∙ ap (λ (s : TrialState). s.answered + 1) is)
+    (kept.over ∙ ap (λ (s : TrialState). s.is_over) is)
