@@ -3,7 +3,7 @@
 //! - [`page`], [`records`]: the records that the store has committed, in pages of 1,000, and all of them.
 //! - [`load_records`]: records into a store that has none, a run of at most 65,536 in a transaction of its own.
 //! - [`records_are_the_map`]: such a store then has the map whose records they are.
-//! - [`renew`]: a store in another's place, before that one is out of runs.
+//! - [`renewed`]: a fresh store with another's records, to take its place before that one is out of runs.
 #![tactic(auto)]
 
 mod laws;
@@ -14,4 +14,4 @@ mod renewing;
 pub use laws::records_are_the_map;
 pub use loading::load_records;
 pub use pages::{page, records};
-pub use renewing::renew;
+pub use renewing::renewed;

@@ -2,7 +2,7 @@
 
 use am_record::{HashKey, Key, Op, Range, Records, Refusal, Reply, Value};
 use am_replica::Machine;
-use am_replica_records::renew;
+use am_replica_records::renewed;
 use am_replica_store::ReplicaStore;
 use std::alloc::Global;
 use std::test::Fail;
@@ -113,11 +113,8 @@ fn a_store_made_anew_has_its_records(rt: HostRuntime) -> Result<(), Fail> {
         assert!(rt; told[0] == Reply::Done);
         store.abort()?;
         if number % 2 == 0 {
-            renew(
-                alloc,
-                &mut store,
-                ReplicaStore::new(alloc, HashKey::known())?,
-            )?;
+            let fresh = ReplicaStore::new(alloc, HashKey::known())?;
+            store = renewed(alloc, &mut store, fresh)?;
         }
     }
     let told = store.run(&vec![in alloc; get(1), get(2), get(3), get(5)]?)?;
