@@ -5,7 +5,6 @@ use crate::fault::Fault;
 use crate::indexes::list_of_five;
 use crate::loads::loads_of_a_list;
 use crate::plain_map::{plain_alone, plain_answers};
-use crate::replicas::{entry_followed, entry_of_three, lines_tried};
 use crate::rows_back::{rows_back_of_a_list, scans_back};
 use crate::texts::replies;
 use std::alloc::Global;
@@ -21,13 +20,10 @@ pub(crate) enum Call {
     PlainAlone,
     Replies,
     EntryOfTwo,
-    EntryOfThree,
-    EntryFollowed,
-    LinesTried,
 }
 
 /// All calls.
-pub(crate) const CALLS: [Call; 11] = [
+pub(crate) const CALLS: [Call; 8] = [
     Call::ListOfFive,
     Call::RowsBackOfAList,
     Call::ScansBack,
@@ -36,9 +32,6 @@ pub(crate) const CALLS: [Call; 11] = [
     Call::PlainAlone,
     Call::Replies,
     Call::EntryOfTwo,
-    Call::EntryOfThree,
-    Call::EntryFollowed,
-    Call::LinesTried,
 ];
 
 impl Call {
@@ -52,9 +45,6 @@ impl Call {
             Call::PlainAlone => "plain_alone",
             Call::Replies => "replies",
             Call::EntryOfTwo => "entry_of_two",
-            Call::EntryOfThree => "entry_of_three",
-            Call::EntryFollowed => "entry_followed",
-            Call::LinesTried => "lines_tried",
         }
     }
 
@@ -69,9 +59,6 @@ impl Call {
             Call::PlainAlone => plain_alone(alloc),
             Call::Replies => replies(alloc),
             Call::EntryOfTwo => entry_of_two(alloc),
-            Call::EntryOfThree => entry_of_three(alloc),
-            Call::EntryFollowed => entry_followed(alloc),
-            Call::LinesTried => lines_tried(alloc),
         }
     }
 }

@@ -10,7 +10,6 @@ mod indexes;
 mod loads;
 mod numbers;
 mod plain_map;
-mod replicas;
 mod rows_back;
 mod texts;
 

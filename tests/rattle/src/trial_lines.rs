@@ -129,15 +129,26 @@ fn a_block_has_a_bound(rt: HostRuntime) -> Result<(), Fail> {
     let alloc = rt.alloc();
     let mut replica = replica(alloc)?;
     let mut transaction = LineTransaction::new(alloc, &replica.digest)?;
-    // As many lines as would be answered, by their count alone.
-    transaction.answered = 646_464;
+    // A line is counted with 100 bytes more: of these, with 4,000 bytes, no more than 15,609 have room.
+    let mut line = Vec::from_slice(alloc, b"STAGE")?;
+    for _ in 0..221 {
+        line.extend_from_slice(b" abcdefghij=uvwxyz")?;
+    }
+    while line.len() < 4_000 {
+        line.push(b'z')?;
+    }
+    for _ in 0..15_609 {
+        let told = answer(alloc, &mut transaction, &mut replica, &line)?;
+        assert!(rt; told == "staged" || told == "not staged", "{told}");
+    }
     assert_eq!(rt;
-        answer(alloc, &mut transaction, &mut replica, b"GET ant")?,
+        answer(alloc, &mut transaction, &mut replica, &line)?,
         "limit"
     );
+    // What is left is enough for a short one.
     assert_eq!(rt;
         answer(alloc, &mut transaction, &mut replica, b"STAGE ant=1")?,
-        "limit"
+        "staged"
     );
     assert_eq!(rt;
         answer(alloc, &mut transaction, &mut replica, b"WHAT")?,
