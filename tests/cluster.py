@@ -5,6 +5,7 @@ environment's AMREPLICA_STORE names another command for the store, or AMREPLICA_
 from __future__ import annotations
 
 import os
+import random
 import shlex
 import signal
 import socket
@@ -24,9 +25,19 @@ REPLICAS = 6
 
 
 def free_ports(count: int) -> List[int]:
-    """Ports that nobody listens at."""
-    held = [socket.create_server(("127.0.0.1", 0)) for _ in range(count)]
-    ports = [int(one.getsockname()[1]) for one in held]
+    """Ports that nobody listens at, below those that connections are given: one of these could take a member's while that is down."""
+    with open("/proc/sys/net/ipv4/ip_local_port_range", encoding="ascii") as file:
+        end = int(file.read().split()[0])
+    held: List[socket.socket] = []
+    ports: List[int] = []
+    for port in random.SystemRandom().sample(range(end // 2, end), end - end // 2):
+        try:
+            held.append(socket.create_server(("127.0.0.1", port)))
+        except OSError:
+            continue
+        ports.append(port)
+        if len(ports) == count:
+            break
     for one in held:
         one.close()
     return ports
