@@ -129,27 +129,22 @@ fn a_block_has_a_bound(rt: HostRuntime) -> Result<(), Fail> {
     let alloc = rt.alloc();
     let mut replica = replica(alloc)?;
     let mut transaction = LineTransaction::new(alloc, &replica.digest)?;
-    // A line is counted with 100 bytes more: of these, with 4,000 bytes, no more than 15,609 have room.
-    let mut line = Vec::from_slice(alloc, b"STAGE")?;
-    for _ in 0..221 {
-        line.extend_from_slice(b" abcdefghij=uvwxyz")?;
-    }
-    while line.len() < 4_000 {
-        line.push(b'z')?;
-    }
-    for _ in 0..15_609 {
-        let told = answer(alloc, &mut transaction, &mut replica, &line)?;
-        assert!(rt; told == "staged" || told == "not staged", "{told}");
+    // A line is counted with 100 bytes more: of these no more than 587,155 have room.
+    for _ in 0..587_155 {
+        let told = transaction.take(alloc, &mut replica.machine, &replica.digest, b"STAGE a=1")?;
+        assert!(rt; matches!(told, TrialAnswer::Stage(_)));
     }
     assert_eq!(rt;
-        answer(alloc, &mut transaction, &mut replica, &line)?,
+        answer(alloc, &mut transaction, &mut replica, b"STAGE a=1")?,
         "limit"
     );
-    // What is left is enough for a short one.
-    assert_eq!(rt;
-        answer(alloc, &mut transaction, &mut replica, b"STAGE ant=1")?,
-        "staged"
-    );
+    // What is left is just enough for a shorter one.
+    for told in ["NONE", "limit"] {
+        assert_eq!(rt;
+            answer(alloc, &mut transaction, &mut replica, b"GET a")?,
+            told
+        );
+    }
     assert_eq!(rt;
         answer(alloc, &mut transaction, &mut replica, b"WHAT")?,
         "other"
