@@ -94,7 +94,9 @@ def guarded(folder: str) -> None:
         wanted("a transaction", client.ask("BEGIN", "INS a 1", "COMMIT")[1:], ["OK", "COMMITTED 1"])
         cluster.kill_member(0)  # which forgets the token
         cluster.start_member(0)
-        wanted("behind a restart", until(lambda: reads(cluster, "a") == ["VAL 1", "COMMITTED 1"]), True)
+        if not until(lambda: reads(cluster, "a") == ["VAL 1", "COMMITTED 1"]):
+            with open(f"{folder}/m0.log", encoding="utf-8", errors="replace") as log:
+                fail(f"no read behind a restart; the member: {log.read()[-1000:]}; the replica: {cluster.notes(0)[-1000:]}")
         wanted("a commit", cluster.client(0).ask("BEGIN", "INS b 1", "COMMIT")[1:], ["OK", "COMMITTED 2"])
         wrong = run(*access, "--user", "root", "--store", STORE, cluster.endpoints[0], input="wrong\n")
         wanted("a wrong password", (wrong[0], wrong[2].startswith("amreplica: etcd: ")), (5, True))
