@@ -13,7 +13,8 @@ use Rattle.am_record.specs.declared.step.Step.TheVariants.{Begin, Do, Commit, Ab
 use Rattle.am_record.specs.declared.step.Reply.{Reply}
 use Rattle.am_record.specs.declared.step.Reply.TheVariants.{Begun, Committed, Aborted, Refused}
 use Rattle.am_record.proofs.Lists.{AllByRecursion-map, heads, tails}
-use Rattle.am_record.proofs.ByNumber.{of_number-all, of_number-map, of_number-known}
+use Rattle.am_record.specs.ByNumber.{RiseBy}
+use Rattle.am_record.proofs.ByNumber.{of_number-all, of_number-map, of_number-known, RiseBy-map}
 use Rattle.am_record.specs.Events.{Event}
 use Rattle.am_law_serial.specs.Trace.{Trace, Answered, Answers, answered_to, effect, effect_of_do, effects, body}
 use Rattle.am_law_serial.specs.Trace.{ops_of}
@@ -22,7 +23,7 @@ use Rattle.am_law_serial.specs.Machine.{State, Transaction, is_open, body_in}
 use Rattle.am_audit_replies.specs.declared.active.Active.{Active}
 use Rattle.am_audit.specs.declared.checker.Checker.{Checker}
 use Rattle.am_audit.specs.Faults.{IsFirstWrongAnswer}
-use Rattle.am_audit_replies.specs.OwnAnswers.{PlacedAnswer, answered_of, Listed, listed, is_listed}
+use Rattle.am_audit_replies.specs.OwnAnswers.{PlacedAnswer, answered_of, Listed, listed, is_listed, place_in}
 use Rattle.am_audit.specs.Progress.{answers_from, answers_at}
 use Rattle.am_audit_replies.specs.OwnAnswers.{own_in, IsFirstWrong}
 use Rattle.am_audit.specs.Progress.{Bodies, list_of, Progress, HasChecked}
@@ -47,6 +48,19 @@ own_are bodies txs t on =
     (λ x. x.1) [] (λ x. refl) txs t
     ∙ of_number-known (λ (x : Transaction). x.0) (λ x. bodies x.0) [] (λ ps. ps ≡ bodies t) t (λ x e. ap bodies e) txs
     on
+
+-- the numbers of the active transactions rise
+pub listed_rise : (p : Checker) (here : Progress) → HasChecked p here → (all : List Active) → all ≡ p.active.items →
+    RiseBy (λ (x : Listed). x.0) (map listed all)
+listed_rise p here h all is =
+    subst (λ (xs : List Listed). RiseBy (λ (x : Listed). x.0) xs) (sym (ap (map listed) is ∙ h.active))
+    (RiseBy-map (λ (x : Transaction). x.0) (λ (x : Listed). x.0) (list_of here.bodies) (λ x. refl) here.state.active
+    h.ordinary.rising)
+
+-- where it stands in one list that is kept, it stands in the other
+pub asked_there : {kept all other : List Active} {found : Option ℕ} {place : ℕ} (t : ℕ) → all ≡ kept → other ≡ kept →
+    found ≡ place_in all t → found ≡ Some place → place_in other t ≡ Some place
+asked_there t one two is some = ap (λ (xs : List Active). place_in xs t) (two ∙ sym one) ∙ sym is ∙ some
 
 module _ (p : Checker) (here : Progress) (h : HasChecked p here) (all : List Active) (is : all ≡ p.active.items) (t : ℕ)
   where

@@ -1,6 +1,7 @@
 //! The audit of a trace, event by event.
 
 ghost use Rattle.std.specs.Prelude.{◌≡◌, ◌==◌, ℕ, not, map, filter, [], None, Some, true, false, IfErr, IfOk, OnOk};
+ghost use Rattle.am_record.specs.ByNumber.{RiseBy};
 ghost use Rattle.am_record.specs.declared.step.Step.TheVariants.{Begin, Do, Commit, Abort, Merge, Clean};
 ghost use Rattle.am_store_locks.specs.Table.{is_owner, without_owner};
 ghost use Rattle.am_law_serial.specs.Machine.{due_early, is_full};
@@ -9,9 +10,9 @@ ghost use Rattle.am_audit_replies.specs.OwnAnswers.{listed, place_in};
 use crate::verdict::verdict;
 use am_audit_locks::HeldLocks;
 use am_audit_replies::{
-    Active, EventFault, OwnAnswer, forget, is_active, is_early, is_full, is_refusal, is_refused,
-    keep_answer, may_abort, may_begin, may_clean, may_commit, may_merge, operation_count,
-    own_answers, place_of, refusal, replay, runs_made,
+    Active, EventFault, OwnAnswer, forget, is_early, is_full, is_refusal, is_refused, keep_answer,
+    may_abort, may_begin, may_clean, may_commit, may_merge, operation_count, own_answers, place_of,
+    refusal, replay, runs_made,
 };
 use am_record::{NoMemory, Op, Range, Reply, Step};
 use am_record_model::Plain;
@@ -108,12 +109,12 @@ impl Checker {
         ensures event_fault { IfErr result (IsEventFault self.old.most_runs here (Abort tx) reply.now) }
         ensures most { self.new.most_runs ≡ self.old.most_runs }
     {
-        let was_active = is_active(&self.active, tx);
-        if !may_abort(was_active, tx, reply) {
+        let place = place_of(&self.active, tx);
+        if !may_abort(place.is_some(), tx, reply) {
             return Err(EventFault::Form);
         }
-        if was_active {
-            end(&mut self.active, &mut self.locks, tx);
+        if let Some(place) = place {
+            end(&mut self.active, &mut self.locks, tx, place);
         }
         Ok(())
     }
@@ -125,20 +126,20 @@ impl Checker {
         ensures event_fault { IfErr result (IsEventFault self.old.most_runs here (Commit tx) reply.now) }
         ensures most { self.new.most_runs ≡ self.old.most_runs }
     {
-        if !may_commit(is_active(&self.active, tx), self.commits, tx, reply) {
+        let place = place_of(&self.active, tx);
+        if !may_commit(place.is_some(), self.commits, tx, reply) {
             return Err(EventFault::Form);
         }
         let Reply::Committed(commit) = reply else {
             return Ok(());
         };
-        let Some(own) = own_answers(&self.active, tx) else {
-            unreachable!()
-        };
+        let Some(place) = place else { unreachable!() };
+        let own = own_answers(&self.active, place);
         if let Err(event_fault) = replay(&mut self.committed, own) {
             return Err(event_fault);
         }
         self.committed.forget_saved();
-        end(&mut self.active, &mut self.locks, tx);
+        end(&mut self.active, &mut self.locks, tx, place);
         self.commits = *commit;
         Ok(())
     }
@@ -194,7 +195,8 @@ impl Checker {
         if let Err(event_fault) = verdict(asked, tx, &op, &reply) {
             return Err(event_fault);
         }
-        let made = runs_made(&mut self.committed, &self.active, tx, &op, &reply)?;
+        let own = own_answers(&self.active, place);
+        let made = runs_made(&mut self.committed, own, &op, &reply)?;
         keep_answer(
             &mut self.active,
             place,
@@ -235,12 +237,14 @@ impl Checker {
     }
 }
 
-// Ends the transaction: it is not active any more, and its locks are gone.
-fn end(all: &mut Vec<Active>, locks: &mut HeldLocks, tx: u64)
-    requires { is_owner locks.old tx ≡ true }
+// Ends the transaction, which stands there: it is not active any more, and its locks are gone.
+fn end(all: &mut Vec<Active>, locks: &mut HeldLocks, tx: u64, place: usize)
+    requires owner { is_owner locks.old tx ≡ true }
+    requires place { place_in all.old.items tx ≡ Some place }
+    requires rising { RiseBy (λ x. x.0) (map listed all.old.items) }
     ensures active { map listed all.new.items ≡ filter (λ x. not (x.0 == tx)) (map listed all.old.items) }
     ensures locks { locks.new ≡ without_owner locks.old tx }
 {
     locks.release(tx);
-    forget(all, tx);
+    forget(all, place);
 }

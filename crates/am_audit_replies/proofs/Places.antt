@@ -1,10 +1,10 @@
 -- Where an active transaction stands.
 use Rattle.std.proofs.Common.{◌≡◌, ℕ, ◌+◌, ◌<◌, ◌≤◌, suc, List, [], ◌∷◌, ◌++◌, Bool, true, false, cond, not, ◌==◌, ◌||◌}
 use Rattle.std.proofs.Common.{Option, Some, None, length, map, get_or, refl, sym, ap, ◌∙◌, arith}
-use Rattle.std.specs.Prelude.{nat_lt}
+use Rattle.std.specs.Prelude.{nat_lt, is_some}
 use Rattle.std.specs.List.{position_or_len}
 use Rattle.std.proofs.Math.ListN.{set}
-use Rattle.std.proofs.lemmas.Bool.{ltb-true, ltb-false}
+use Rattle.std.proofs.lemmas.Bool.{ltb-true, ltb-false, eqb-true}
 use Rattle.std.proofs.lemmas.Option.{none-some}
 use Rattle.am_audit_replies.specs.declared.active.Active.{Active}
 use Rattle.am_audit_replies.specs.OwnAnswers.{PlacedAnswer, placed_answer, listed, is_listed, own_in, place_in}
@@ -42,18 +42,35 @@ place_is t all i e =
     let less = ltb-true (first t all) (length all) at.0 in
     (omega (arith, less, before_is t all), sym (before_is t all) ∙ at.1)
 
+pub number_there : (t : ℕ) (all : List Active) (d : Active) → before t all < length all →
+    (get_or all (before t all) d).number ≡ t
+number_there t [] d less = absurd (omega (arith, less))
+number_there t (x ∷ all) d less = cases (x.number == t) refl (λ inside. number_there t all d inside)
+  where
+    cases : (b : Bool) → (x.number == t) ≡ b →
+        (before t all < length all → (get_or all (before t all) d).number ≡ t) →
+        (get_or (x ∷ all) (before t (x ∷ all)) d).number ≡ t
+    cases true e later = ap (λ c. (get_or (x ∷ all) (cond c 0 (suc (before t all))) d).number) e
+        ∙ eqb-true x.number t e
+    cases false e later =
+        let next : cond (x.number == t) 0 (suc (before t all)) ≡ suc (before t all) =
+        ap (λ c. cond c 0 (suc (before t all))) e in
+        ap (λ n. (get_or (x ∷ all) n d).number) next ∙ later (omega (arith, less, next))
+
+pub listed_there : (t : ℕ) (all : List Active) → before t all < length all → is_listed (map listed all) t ≡ true
+listed_there t [] less = absurd (omega (arith, less))
+listed_there t (x ∷ all) less = elim (x.number == t) as (λ b. cond b 0 (suc (before t all)) < suc (length all) →
+    (b || is_listed (map listed all) t) ≡ true)
+    [ true ↦ λ less. refl | false ↦ λ less. listed_there t all (omega (arith, less)) ] less
+
 -- what stands there is what is listed of it
-pub found : (t : ℕ) (all : List Active) (d : Active) → before t all < length all →
-    (is_listed (map listed all) t ≡ true) ×
-    (own_in (map listed all) t ≡ map placed_answer (get_or all (before t all) d).own.items)
-found t [] d less = absurd (omega (arith, less))
-found t (x ∷ all) d less = elim (x.number == t) as (λ b. cond b 0 (suc (before t all)) < suc (length all) →
-    ((b || is_listed (map listed all) t) ≡ true) ×
-    (cond b (map placed_answer x.own.items) (own_in (map listed all) t) ≡
-    map placed_answer (get_or (x ∷ all) (cond b 0 (suc (before t all))) d).own.items)) [
-      | true ↦ λ less. (refl, refl)
-      | false ↦ λ less. found t all d (omega (arith, less))
-    ] less
+pub own_there : (t : ℕ) (all : List Active) (d : Active) → before t all < length all →
+    own_in (map listed all) t ≡ map placed_answer (get_or all (before t all) d).own.items
+own_there t [] d less = absurd (omega (arith, less))
+own_there t (x ∷ all) d less = elim (x.number == t) as (λ b. cond b 0 (suc (before t all)) < suc (length all) →
+    cond b (map placed_answer x.own.items) (own_in (map listed all) t) ≡
+    map placed_answer (get_or (x ∷ all) (cond b 0 (suc (before t all))) d).own.items)
+    [ true ↦ λ less. refl | false ↦ λ less. own_there t all d (omega (arith, less)) ] less
 
 unlisted : (t : ℕ) (all : List Active) → length all ≤ before t all → is_listed (map listed all) t ≡ false
 unlisted t [] e = refl
@@ -67,6 +84,13 @@ pub not_there : (t : ℕ) (all : List Active) → place_in all t ≡ None → is
 not_there t all e =
     let least = ltb-false (first t all) (length all) (at_none (nat_lt (first t all) (length all)) (first t all) e) in
     unlisted t all (omega (arith, least, before_is t all))
+
+pub there : (t : ℕ) (all : List Active) → is_some (place_in all t) ≡ is_listed (map listed all) t
+there t all = cases (place_in all t) refl
+  where
+    cases : (o : Option ℕ) → place_in all t ≡ o → is_some (place_in all t) ≡ is_listed (map listed all) t
+    cases None e = ap is_some e ∙ sym (not_there t all e)
+    cases (Some i) e = ap is_some e ∙ sym (listed_there t all (place_is t all i e).0)
 
 -- one more answer of it
 changed : (t : ℕ) (p : PlacedAnswer) (all : List Active) (y d : Active) → before t all < length all →

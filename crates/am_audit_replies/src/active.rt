@@ -1,7 +1,8 @@
 //! The active transactions of a trace.
 
 ghost use Rattle.std.specs.Prelude.{◌≡◌, ◌==◌, ◌<◌, ℕ, not, map, filter, length, true};
-ghost use Rattle.std.specs.Prelude.{false, [], IfSome, IfNone, IfOk, OnOk, Some};
+ghost use Rattle.std.specs.Prelude.{false, [], IfSome, IfNone, IfOk, OnOk, Some, is_some};
+ghost use Rattle.am_record.specs.ByNumber.{RiseBy};
 ghost use Rattle.am_audit_replies.specs.OwnAnswers.{listed, is_listed, place_in, own_in, placed_answer, with_own};
 
 use am_record::{NoMemory, Op, Reply};
@@ -46,35 +47,11 @@ impl Active {
     }
 }
 
-/// Whether the transaction is active.
-pub fn is_active(all: &[Active], tx: u64) -> bool
-    ensures { result ≡ is_listed (map listed all.now) tx }
-{
-    match own_answers(all, tx) {
-        Some(_) => true,
-        None => false,
-    }
-}
-
-/// The transaction's answered operations, where it is active.
-pub fn own_answers(all: &[Active], tx: u64) -> Option<&[OwnAnswer]>
-    ensures found { IfSome result (λ own. (is_listed (map listed all.now) tx ≡ true) ×
-        (map placed_answer own.now ≡ own_in (map listed all.now) tx)) }
-    ensures none { IfNone result (is_listed (map listed all.now) tx ≡ false) }
-{
-    for active in all {
-        if active.number == tx {
-            return Some(&active.own);
-        }
-    }
-    None
-}
-
 /// Where the transaction stands among the active ones, where it is one.
 pub fn place_of(all: &[Active], tx: u64) -> Option<usize>
     ensures place { result ≡ place_in all.now tx }
     ensures inside { IfSome result (λ p. p < length all.now) }
-    ensures none { IfNone result (is_listed (map listed all.now) tx ≡ false) }
+    ensures active { is_some result ≡ is_listed (map listed all.now) tx }
 {
     all.iter().position(|active| active.number == tx)
 }
@@ -93,6 +70,15 @@ pub fn operation_count(all: &[Active], place: Option<usize>) -> Option<usize>
     }
 }
 
+/// The answered operations of the transaction that stands there.
+pub fn own_answers(all: &[Active], place: usize) -> &[OwnAnswer]
+    requires { place < length all.now }
+    ensures { (tx : ℕ) → place_in all.now tx ≡ Some place →
+        map placed_answer result.now ≡ own_in (map listed all.now) tx }
+{
+    &all[place].own
+}
+
 /// Keeps one more answered operation of the transaction that stands there.
 pub fn keep_answer(all: &mut [Active], place: usize, kept: OwnAnswer) -> Result<(), NoMemory>
     requires { place < length all.old }
@@ -105,9 +91,11 @@ pub fn keep_answer(all: &mut [Active], place: usize, kept: OwnAnswer) -> Result<
     Ok(())
 }
 
-/// Forgets the transaction: it is not active any more.
-pub fn forget(all: &mut Vec<Active>, tx: u64)
-    ensures { map listed all.new.items ≡ filter (λ x. not (x.0 == tx)) (map listed all.old.items) }
+/// Forgets the transaction that stands there: it is not active any more.
+pub fn forget(all: &mut Vec<Active>, place: usize)
+    requires { place < length all.old.items }
+    ensures { (tx : ℕ) → place_in all.old.items tx ≡ Some place → RiseBy (λ x. x.0) (map listed all.old.items) →
+        map listed all.new.items ≡ filter (λ x. not (x.0 == tx)) (map listed all.old.items) }
 {
-    all.retain(|active| active.number != tx);
+    let _ended = all.remove(place);
 }

@@ -10,9 +10,7 @@ mod forms;
 mod replies;
 mod runs;
 
-pub use active::{
-    Active, OwnAnswer, forget, is_active, keep_answer, operation_count, own_answers, place_of,
-};
+pub use active::{Active, OwnAnswer, forget, keep_answer, operation_count, own_answers, place_of};
 pub use answers::is_answer;
 pub use body_replay::replay;
 pub use early::{is_early, is_full, refusal};

@@ -6,37 +6,33 @@ ghost use Rattle.std.specs.List.{list_all};
 ghost use Rattle.am_record.specs.Plain.{PlainMap, Draft, fresh, has_new, draft_after};
 ghost use Rattle.am_record.specs.declared.step.Op.TheVariants.{Back};
 ghost use Rattle.am_law_serial.specs.Trace.{runs_made};
-ghost use Rattle.am_audit_replies.specs.OwnAnswers.{listed, is_listed, own_in, placed_answer, left_by_all};
+ghost use Rattle.am_audit_replies.specs.OwnAnswers.{placed_answer, left_by_all};
 ghost use Rattle.am_record.specs.declared.step.Reply.{Reply};
 ghost use Rattle.am_audit_replies.specs.Trials.{above, backs, HasTried, is_apart, may_write_in};
 
-use crate::active::{Active, OwnAnswer, own_answers};
+use crate::active::OwnAnswer;
 use am_record::{Key, Lock, NoMemory, Op, Range, Reply, Value};
 use am_record_model::Plain;
 
-/// How many runs the operation made, by what its active transaction sees. The committed map stays as it is.
+/// How many runs the operation made, by what its transaction sees after these operations of its own. The committed map
+/// stays as it is.
 ///
 /// # Errors
 /// NoMemory, where memory was refused. The map is then no use.
 pub fn runs_made(
     committed: &mut Plain,
-    all: &[Active],
-    tx: u64,
+    own: &[OwnAnswer],
     op: &Op,
     reply: &Reply,
 ) -> Result<u32, NoMemory>
-    requires fresh { committed.old ≡ fresh committed.old.map }
-    requires active { is_listed (map listed all.now) tx ≡ true }
-    ensures made { IfOk result (λ n. n ≡ runs_made (left_by_all (own_in (map listed all.now) tx) committed.old).map
+    requires { committed.old ≡ fresh committed.old.map }
+    ensures made { IfOk result (λ n. n ≡ runs_made (left_by_all (map placed_answer own.now) committed.old).map
         op.now reply.now) }
     ensures same { OnOk result (committed.new ≡ committed.old) }
 {
     match (op, reply) {
         (Op::Load(_), Reply::Done) => Ok(1),
         (Op::Put(records), Reply::Done) => {
-            let Some(own) = own_answers(all, tx) else {
-                unreachable!()
-            };
             let is_new = if are_apart(own, op) {
                 has_new(committed, records.as_slice())
             } else {

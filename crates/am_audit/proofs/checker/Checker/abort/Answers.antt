@@ -1,35 +1,38 @@
 use Rattle.std.proofs.Common.{refl, sym, ap, ◌∙◌}
+use Rattle.std.specs.Prelude.{is_some}
 use Rattle.std.proofs.lemmas.Bool.{false≢true}
-use Rattle.std.specs.Prelude.{map}
-use Rattle.am_audit_replies.specs.OwnAnswers.{listed, is_listed}
-use Rattle.am_audit.proofs.EventSteps.{takes_still, abort_nothing, is_active, is_owned, takes_abort}
+use Rattle.am_audit.proofs.Bodies.{listed_open, listed_rise, asked_there}
+use Rattle.am_audit.proofs.EventSteps.{takes_still, abort_nothing, is_owned, takes_abort}
 use Rattle.am_audit.proofs.checker.Checker.abort.Goals as goal
 
 pub may_abort-requires : goal.may_abort-requires
-may_abort-requires g c = c.is_active-was_active.ensures ∙ ap (λ all. is_listed (map listed all) c.args.tx)
-    c.deref.ensures.value ∙ is_active c.args.self.now g.here c.requires c.args.tx
+may_abort-requires g c =
+    c.is_some.ensures ∙ c.place_of-place.ensures.active
+    ∙ listed_open c.args.self.now g.here c.requires _ c.deref.ensures.value c.args.tx
 
 pub end-requires : goal.end-requires
-end-requires g c =
-    is_owned c.args.self.now g.here c.requires c.args.tx
-    ∙ sym (c.is_active-was_active.ensures ∙ ap (λ all. is_listed (map listed all) c.args.tx) c.deref.ensures.value ∙
-    is_active c.args.self.now g.here c.requires c.args.tx)
-    ∙ c.if-was_active.true
+end-requires g c = record {
+  owner = is_owned c.args.self.now g.here c.requires c.args.tx
+      ∙ sym (sym (ap is_some c.in-Some.is) ∙ c.place_of-place.ensures.active
+      ∙ listed_open c.args.self.now g.here c.requires _ c.deref.ensures.value c.args.tx);
+  place = asked_there c.args.tx c.deref.ensures.value refl c.place_of-place.ensures.place c.in-Some.is;
+  rising = listed_rise c.args.self.now g.here c.requires _ refl;
+}
 
-pub returns-then-was_active-clause-takes : goal.returns-then-was_active-clause-takes
-returns-then-was_active-clause-takes g c =
+pub returns-in-Some-clause-takes : goal.returns-in-Some-clause-takes
+returns-in-Some-clause-takes g c =
     takes_abort c.args.self.now.most_runs c.args.self.now _ g.here c.args.tx c.args.reply.now c.requires
-    (sym (c.is_active-was_active.ensures ∙ ap (λ all. is_listed (map listed all) c.args.tx) c.deref.ensures.value ∙
-    is_active c.args.self.now g.here c.requires c.args.tx) ∙ c.if-was_active.true)
+    (sym (sym (ap is_some c.in-Some.is) ∙ c.place_of-place.ensures.active
+    ∙ listed_open c.args.self.now g.here c.requires _ c.deref.ensures.value c.args.tx))
     ((c.if-not-may_abort.ensures c.args.self.now.most_runs).0 refl) refl refl refl c.end.ensures.active
     c.end.ensures.locks refl
 
-pub returns-else-was_active-clause-takes : goal.returns-else-was_active-clause-takes
-returns-else-was_active-clause-takes g c =
+pub returns-in_default-clause-takes : goal.returns-in_default-clause-takes
+returns-in_default-clause-takes g c =
     takes_still c.args.self.now.most_runs _ g.here _ c.args.reply.now
     (abort_nothing c.args.self.now.most_runs g.here.state c.args.tx c.args.reply.now
-    (sym (c.is_active-was_active.ensures ∙ ap (λ all. is_listed (map listed all) c.args.tx) c.deref.ensures.value ∙
-    is_active c.args.self.now g.here c.requires c.args.tx) ∙ c.if-was_active.false)
+    (sym (sym (ap is_some c.in_default.is) ∙ c.place_of-place.ensures.active
+    ∙ listed_open c.args.self.now g.here c.requires _ c.deref.ensures.value c.args.tx))
     ((c.if-not-may_abort.ensures c.args.self.now.most_runs).0 refl))
     (record { formed = (c.if-not-may_abort.ensures c.args.self.now.most_runs).0 refl; busy = tt }) c.requires
 

@@ -1,5 +1,5 @@
 use Rattle.std.proofs.Common.{◌≡◌, ℕ, Bool, List, Option, Some, None, refl, sym, ap, ◌∙◌}
-use Rattle.std.specs.Prelude.{IfSome, IfNone}
+use Rattle.std.specs.Prelude.{IfSome, IfNone, is_some}
 use Rattle.std.proofs.lemmas.Bool.{false≢true}
 use Rattle.am_record.specs.declared.step.Op.{Op}
 use Rattle.am_record.specs.declared.step.Reply.{Reply}
@@ -84,6 +84,6 @@ returns-then-is_early-clause-event_fault g c =
     (sym c.is_early.ensures ∙ c.if-is_early.true)
 
 pub unreachable-requires : goal.unreachable-requires
-unreachable-requires g c = false≢true (sym c.in_default-place.ensures.none
+unreachable-requires g c = false≢true (sym (ap is_some c.in_default-place.is) ∙ c.place_of-place.ensures.active
     ∙ listed_open c.args.self.now g.here c.requires.0 _ c.deref.ensures.value c.args.tx
     ∙ open_of_none c.is_full-full.result g.here.state c.args.tx c.args.op (sym c.in_default.ensures))

@@ -1,12 +1,12 @@
-use Rattle.std.proofs.Common.{rules, arith, ◌<◌, ◌≡◌, refl, sym, ap, ◌∙◌, ◌+◌, map}
+use Rattle.std.proofs.Common.{List, rules, arith, ◌<◌, ◌≡◌, refl, sym, ap, ◌∙◌, ◌+◌, map}
 use Rattle.std.specs.Prelude.{◌^◌}
 use Rattle.std.proofs.lemmas.Result.{on_ok_weaker}
 use Rattle.am_law_serial.specs.Trace.{runs_made}
 use Rattle.am_law_serial.specs.Machine.{view}
-use Rattle.am_audit_replies.specs.OwnAnswers.{listed, place_in, with_own}
+use Rattle.am_audit_replies.specs.declared.active.Active.{Active}
+use Rattle.am_audit_replies.specs.OwnAnswers.{PlacedAnswer, listed, place_in, with_own, left_by_all}
 use Rattle.am_audit_replies.proofs.Actives.{items_kept}
-use Rattle.am_audit.proofs.Bodies.{listed_open}
-use Rattle.am_audit.proofs.Performs.{takes_refused, takes_answer, made_fits, made_by, open_of_none}
+use Rattle.am_audit.proofs.Performs.{takes_refused, takes_answer, made_fits, made_by}
 use Rattle.am_audit.proofs.checker.Checker.perform.Goals as goal
 
 pub returns-then-is_refusal-clause-takes : goal.returns-then-is_refusal-clause-takes
@@ -17,19 +17,18 @@ returns-then-is_refusal-clause-takes g c =
     (sym c.is_refusal.ensures ∙ c.if-is_refusal.true) right refl refl refl refl c.look-asked.ensures.same refl)
     c.verdict.ensures.right
 
-pub runs_made-requires-clause-active : goal.runs_made-requires-clause-active
-runs_made-requires-clause-active g c =
-    listed_open c.args.self.now g.at.1 c.requires.0 _ c.deref.ensures.value c.args.tx
-    ∙ open_of_none _ g.at.1.state c.args.tx c.args.op c.requires.1.1.0
-
 pub returns-clause-takes : goal.returns-clause-takes
 returns-clause-takes g c =
     let answered = sym c.is_refusal.ensures ∙ c.if-is_refusal.false in
+    let asked = ap (λ (all : List Active). place_in all c.args.tx) c.deref.ensures.value ∙ c.requires.1.1.1.1.1 in
+    let made = c.in_ok-made.ensures.made ∙ ap (λ (own : List PlacedAnswer). runs_made
+    (left_by_all own c.args.self.now.committed).map c.args.op c.args.reply)
+    (c.own_answers-own.ensures c.args.tx asked) in
     takes_answer _ c.args.self.now g.at.1 c.requires.0 c.args.tx c.args.op c.requires.1.1.0 g.at.0 _
     c.args.reply c.args.position
     _ c.requires.1.0 refl answered c.in_default.ensures.right
     refl refl (ap (λ n. c.args.self.now.runs + n) (made_by _ c.args.self.now g.at.1 c.requires.0 c.args.tx c.args.op
-    c.args.reply c.requires.1.1.0 _ c.deref.ensures.value _ c.in_ok-made.ensures.made))
+    c.args.reply c.requires.1.1.0 _ c.deref.ensures.value _ made))
     (ap (map listed) (items_kept c.args.self.now.active c.keep_answer.new.all c.deref_mut.result.now
     c.deref_mut.ensures.value c.keep_answer.auto.all) ∙ c.in_ok-keep_answer.ensures c.args.tx
     (ap (λ all. place_in all c.args.tx) c.deref_mut.ensures.value ∙ c.requires.1.1.1.1.1) ∙
@@ -45,7 +44,10 @@ overflow_add-self g c =
     let counted = c.requires.0.runs in
     let fits = made_fits g.at.0 g.at.1.state.runs (2 ^ 32) g.at.1.state c.args.tx (view g.at.1.state c.args.tx).map
     c.args.op c.args.reply c.requires.1.1.0 (omega (arith, most, is)) (omega (arith, few, counted)) in
+    let asked = ap (λ (all : List Active). place_in all c.args.tx) c.deref.ensures.value ∙ c.requires.1.1.1.1.1 in
     let made : c.in_ok-made.made ≡ runs_made (view g.at.1.state c.args.tx).map c.args.op c.args.reply =
     made_by _ c.args.self.now g.at.1 c.requires.0 c.args.tx c.args.op c.args.reply c.requires.1.1.0 _
-    c.deref.ensures.value _ c.in_ok-made.ensures.made in
+    c.deref.ensures.value _ (c.in_ok-made.ensures.made ∙ ap (λ (own : List PlacedAnswer). runs_made
+    (left_by_all own c.args.self.now.committed).map c.args.op c.args.reply)
+    (c.own_answers-own.ensures c.args.tx asked)) in
     omega (arith, fits, counted, made)
