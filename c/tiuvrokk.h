@@ -458,7 +458,7 @@ tvk_status tvk_load(tvk_store *store, uint64_t tx, const tvk_record *records, si
  * sorted, and they are loaded in turn, each as by tvk_load, until one is refused. No savepoint is set: what was loaded before
  * the refused run stays. Then abort, or go back to a savepoint of your own, or go on later with the records behind `loaded`.
  * Each run that is loaded is an operation, and locks the range from its first key to its last, exclusive: where there are more
- * than 255 runs, lock all keys first.
+ * than 255 runs, lock all keys first. Records are read where they lie, and copied run by run.
  *
  * @param[in,out] store   the store
  * @param tx              the transaction
@@ -482,8 +482,8 @@ tvk_status tvk_load(tvk_store *store, uint64_t tx, const tvk_record *records, si
  * @retval TVK_TOO_MANY_RUNS   TVK_MAX_RUNS runs have entries, or 4,294,967,294 loads were made
  * @retval TVK_BUSY            `holder` has a lock that is in the way
  * @retval TVK_TOO_MANY_LOCKS  the transaction holds TVK_MAX_LOCKS locks, and none of them covers the range
- * @retval TVK_NO_MEMORY       memory was refused: for a run; or in front of TVK_BAD_KEY for a copy of the records, or in front of
- *                             TVK_TWICE for their order, and then none is loaded
+ * @retval TVK_NO_MEMORY       memory was refused: for a run; or in front of TVK_TWICE for the order of the records, and then none
+ *                             is loaded
  * @retval TVK_EXISTS          a key of the refused run has a record: `key`
  */
 tvk_status tvk_load_sorting(tvk_store *store, uint64_t tx, const tvk_record *records, size_t number, tvk_key *key,
@@ -548,8 +548,8 @@ tvk_status tvk_load_structs(tvk_store *store, uint64_t tx, const void *structs, 
  * @retval TVK_TOO_MANY_RUNS   TVK_MAX_RUNS runs have entries, or 4,294,967,294 loads were made
  * @retval TVK_BUSY            `holder` has a lock that is in the way
  * @retval TVK_TOO_MANY_LOCKS  the transaction holds TVK_MAX_LOCKS locks, and none of them covers the range
- * @retval TVK_NO_MEMORY       memory was refused: for a run; or in front of TVK_BAD_LINE for the records, or in front of
- *                             TVK_TWICE for their order, and then none is loaded
+ * @retval TVK_NO_MEMORY       memory was refused: for a run; or in front of TVK_BAD_LINE for the places of its lines, or in front
+ *                             of TVK_TWICE for the order of its records, and then none is loaded
  * @retval TVK_EXISTS          a key of the refused run has a record: `key`
  */
 tvk_status tvk_load_text(tvk_store *store, uint64_t tx, const void *text, size_t length, tvk_key *key, uint64_t *line,

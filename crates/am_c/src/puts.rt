@@ -9,7 +9,7 @@ ghost use Rattle.am_c_steps.specs.Structs.{structs_given};
 ghost use Rattle.am_c_steps.specs.declared.bringing.Bringing.TheVariants.{Put};
 
 use am_c_steps::{
-    Bringing, KeyText, Layout, Record, Structs, pairs_asked, structs_asked, text_asked,
+    Bringing, GivenLines, GivenRecords, KeyText, Layout, Record, Structs, structs_asked,
 };
 use am_c_store::{Handle, tell_runs};
 use std::alloc::Global;
@@ -30,8 +30,8 @@ pub extern "C" fn tiuvrokk_put_sorting(
         (λ n answer. (result ≡ status (without_key answer)) × (told.new ≡ number (without_key answer))
         × (key.new ≡ load_key_told answer key.old) × (loaded.new ≡ n)) }
 {
-    let pairs = pairs_asked(alloc, records);
-    tell_runs(alloc, store, tx, Bringing::Put, pairs, key, loaded, told)
+    let given = GivenRecords::new(records);
+    tell_runs(alloc, store, tx, Bringing::Put, given, key, loaded, told)
 }
 
 /// The same of so many structs of the caller's own, one after another. Those that stand there whole and all have a
@@ -86,6 +86,6 @@ pub extern "C" fn tiuvrokk_put_text(
         (λ n answer. (result ≡ status (without_key answer)) × (told.new ≡ number (without_key answer))
         × (key.new ≡ load_key_told answer key.old) × (loaded.new ≡ n)) }
 {
-    let pairs = text_asked(alloc, text, line);
-    tell_runs(alloc, store, tx, Bringing::Put, pairs, key, loaded, told)
+    let given = GivenLines::read(alloc, text, line);
+    tell_runs(alloc, store, tx, Bringing::Put, given, key, loaded, told)
 }

@@ -1,5 +1,6 @@
 mod CutLines
-mod GivenRecords
 mod Layouts
+mod PairsGiven
 mod Rows
+mod Sources
 mod Wholes

@@ -1,6 +1,6 @@
 -- Texts of records: lines, each of a key, a TAB and a value.
-use Rattle.std.specs.Prelude.{◌≡◌, ◌⊎◌, ◌+◌, ◌==◌, ℕ, Bool, cond, List, [], ◌∷◌, take, drop, Option, None, Some}
-use Rattle.std.specs.Prelude.{Result, Ok, Err, is_ok}
+use Rattle.std.specs.Prelude.{◌≡◌, ◌⊎◌, ◌+◌, ◌<◌, ◌==◌, ℕ, Bool, cond, List, [], ◌∷◌, take, drop, length}
+use Rattle.std.specs.Prelude.{get_or, Option, None, Some, Result, Ok, Err, is_ok}
 use Rattle.std.specs.List.{position, slice_split}
 use Rattle.am_record.specs.OrderedKey.{OrderedKey}
 use Rattle.am_record.specs.Plain.{Records}
@@ -58,6 +58,15 @@ text_given text = lines_given (text_lines text)
 
 abbrev pub wrong_line_of : List ℕ → ℕ
 wrong_line_of text = wrong_line 1 (text_lines text)
+
+-- the text has these lines from there on
+abbrev pub IsLineStart : List ℕ → ℕ → List (List ℕ) → Type 0
+IsLineStart text start lines = (start < length text) × (text_lines (drop start text) ≡ lines)
+
+-- where the lines of a text begin, in their order
+pub record AreLineStarts (text : List ℕ) (starts : List ℕ) : Type 0 where
+  pub all : length starts ≡ length (text_lines text)
+  pub each : (at : ℕ) → at < length starts → IsLineStart text (get_or starts at 0) (drop at (text_lines text))
 
 -- the line is the first wrong one, or memory was refused
 abbrev pub IsWrong : List ℕ → WrongLine → Type 0

@@ -29,6 +29,9 @@ abbrev pub range_given : List ℕ → List ℕ → Result Interval Status
 range_given lo hi = of_both in_order (key_given lo) (key_given hi)
 
 -- the first bytes of a text, as many as it says
+abbrev pub text_key : KeyText → Result OrderedKey Status
+text_key k = cond (nat_le k.len max_key_bytes) (Ok (key_of (take k.len k.bytes))) (Err BadKey)
+
 abbrev pub pair_given : Record → Result (OrderedKey × List ℕ) Status
 pair_given r =
     cond (nat_le r.key.len max_key_bytes)

@@ -111,8 +111,8 @@ pub fn records_asked(
     }
 }
 
-/// The pairs of the records, or what is wrong with the first that isn't one; or NoMemory.
-pub fn pairs_asked(alloc: Global, records: &[Record]) -> Result<Records, Status>
+// The pairs of the records, or what is wrong with the first that isn't one; or NoMemory.
+fn pairs_asked(alloc: Global, records: &[Record]) -> Result<Records, Status>
     ensures { IsCopied (pairs_given records.now) result }
 {
     let Ok(mut pairs) = Vec::with_capacity(alloc, records.len()) else {

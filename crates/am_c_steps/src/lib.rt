@@ -4,6 +4,7 @@
 mod answers;
 mod asked_steps;
 mod bringing;
+mod given_records;
 mod lines;
 mod load_answers;
 mod status;
@@ -13,10 +14,11 @@ mod text;
 pub use answers::{tell_key, tell_rows, tell_rows_behind, tell_value};
 pub use asked_steps::{
     clean_asked, delete_asked, delete_range_asked, get_asked, insert_asked, lock_asked,
-    pairs_asked, records_asked, replace_asked, scan_asked, scan_back_asked, set_asked,
+    records_asked, replace_asked, scan_asked, scan_back_asked, set_asked,
 };
 pub use bringing::Bringing;
-pub use lines::text_asked;
+pub use given_records::GivenRecords;
+pub use lines::GivenLines;
 pub use load_answers::{LoadFailure, failure_of, tell_load_key, without_key};
 pub use status::{Status, number_told, status_told};
 pub use structs::{Layout, Structs, structs_asked};

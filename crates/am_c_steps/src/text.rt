@@ -2,7 +2,7 @@
 
 ghost use Rattle.std.specs.Prelude.{◌≡◌, length};
 ghost use Rattle.am_c_steps.specs.Texts.{key_given, value_given, range_given, pair_given, key_text, value_text};
-ghost use Rattle.am_c_steps.specs.Texts.{record_as_text};
+ghost use Rattle.am_c_steps.specs.Texts.{text_key, record_as_text};
 
 use crate::status::Status;
 use am_record::{Key, MAX_KEY_LEN, MAX_VALUE_LEN, Range, Value};
@@ -72,6 +72,16 @@ impl KeyText {
             len: key.bytes().len(),
             bytes: key.padded(),
         }
+    }
+
+    /// The key, or BadKey where its length is out of bounds.
+    pub(crate) fn key(&self) -> Result<Key, Status>
+        ensures { result ≡ text_key self.now }
+    {
+        if self.len > MAX_KEY_LEN {
+            return Err(Status::BadKey);
+        }
+        key_given(&self.bytes[..self.len])
     }
 }
 

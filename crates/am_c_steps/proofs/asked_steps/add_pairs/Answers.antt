@@ -1,5 +1,5 @@
 use Rattle.std.proofs.Common.{arith, sym, ap, ◌∙◌, Ok, refl, inl}
-use Rattle.am_c_steps.proofs.GivenRecords.{one_more, one_wrong, pushed}
+use Rattle.am_c_steps.proofs.PairsGiven.{one_more, one_wrong, pushed}
 use Rattle.am_c_steps.proofs.asked_steps.add_pairs.Goals as goal
 
 pub loop-record-preserved : goal.loop-record-preserved

@@ -1,7 +1,7 @@
 use Rattle.std.proofs.Common.{◌≡◌, ◌-◌, take, drop, Ok, Err, sym, ap, ◌∙◌, inl}
 use Rattle.std.proofs.lemmas.List.{take_min, drop_min}
 use Rattle.am_c_steps.specs.Structs.{struct_given, structs_given}
-use Rattle.am_c_steps.proofs.GivenRecords.{pushed}
+use Rattle.am_c_steps.proofs.PairsGiven.{pushed}
 use Rattle.am_c_steps.proofs.Layouts.{in_front, one_struct, no_struct}
 use Rattle.am_c_steps.proofs.structs.add_structs.Goals as goal
 
