@@ -1,10 +1,10 @@
 //! A reader of the log with a replica.
 
-ghost use Rattle.std.specs.Prelude.{◌≡◌, ◌<◌, ◌≤◌, ◌^◌, [], ◌∷◌, ◌++◌, Some, None, true, IfOk, OnOk};
+ghost use Rattle.std.specs.Prelude.{◌≡◌, ◌<◌, ◌≤◌, ◌^◌, [], ◌∷◌, ◌++◌, Some, None, true, false, IfOk, OnOk};
 ghost use Rattle.am_replica_log.specs.History.{History, Change, shown, counted_by, revision_of, first_behind};
 ghost use Rattle.am_replica_log.specs.History.{open_pieces};
 ghost use Rattle.am_replica_log.specs.LogState.{LogState};
-ghost use Rattle.am_replica_log.specs.Readers.{is_stray};
+ghost use Rattle.am_replica_log.specs.Readers.{is_known, is_stray};
 ghost use Rattle.am_replica.specs.Ordered.{Ordered};
 ghost use Rattle.am_replica_follower.specs.Following.{Follows, IsTaken, IsTold};
 ghost use Rattle.am_replica_follower.specs.Joining.{Joins, IsLeftAt};
@@ -115,6 +115,9 @@ impl<M: Machine + Drop, D: Digest + Drop> Follower<M, D> {
         ensures had { revision ≤ self.old.known → IfOk result (λ told. told ≡ None) }
         ensures unmoved { revision ≤ self.old.known → self.new.replica ≡ self.old.replica }
         ensures known { self.new.known ≡ self.old.known }
+        ensures again { is_known self.old.log revision event ≡ true →
+            (self.new.log ≡ self.old.log) × (self.new.replica ≡ self.old.replica) × (result ≡ Ok None) }
+        ensures followed { OnOk result (is_stray self.old.log revision event ≡ false) }
         ensures went_back { result ≡ Err LogFault.WentBack → is_stray self.old.log revision event ≡ true }
         ensures idle { OnOk result (M.idle self.new.replica.machine) }
     {

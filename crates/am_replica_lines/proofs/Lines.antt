@@ -1,13 +1,13 @@
 -- Lines of a block, one after another.
-use Rattle.std.proofs.Common.{◌≡◌, ◌≢◌, inl, inr, ℕ, ◌+◌, length, List, [], ◌∷◌, ◌++◌, take, Bool, true, false, ◌&&◌}
+use Rattle.std.proofs.Common.{◌≡◌, ◌≢◌, inl, inr, ℕ, ◌+◌, length, List, [], ◌∷◌, ◌++◌, take, false, ◌&&◌}
 use Rattle.std.proofs.Common.{zero, suc}
-use Rattle.std.proofs.Common.{cond, map, Option, Some, None, Ok, Err, drop, eq-eqb, ◌==◌, refl, sym, ap, ◌∙◌, arith}
+use Rattle.std.proofs.Common.{cond, map, Option, Some, None, drop, eq-eqb, refl, sym, ap, ◌∙◌, arith}
 use Rattle.std.proofs.Common.{append_assoc}
-use Rattle.std.specs.Prelude.{nat_le, Result, IfOk}
+use Rattle.std.specs.Prelude.{nat_le}
 use Rattle.std.specs.List.{list_all}
 use Rattle.std.specs.Option.{option_to_list}
 use Rattle.std.proofs.Math.Bool.{and-false}
-use Rattle.std.proofs.lemmas.Bool.{true≢false, cond_both, leb-true, leb-false, ne_eqb}
+use Rattle.std.proofs.lemmas.Bool.{cond_both, leb-true, leb-false, ne_eqb}
 use Rattle.std.proofs.lemmas.List.{map-append, length-append, take_all, take-append-le}
 use Rattle.std.proofs.lemmas.List.Folds.{list_all-append}
 use Rattle.am_record.specs.Records.{Records}
@@ -21,7 +21,6 @@ use Rattle.am_line_wire.specs.LineReadings.{reading, MayRead}
 use Rattle.am_line_dialogue.specs.Actions.{with_staged, staged_left}
 use Rattle.am_line_dialogue.specs.ParsedLine.{Line as TextLine, parsed, parsed_of, MayParse}
 use Rattle.am_line_dialogue.specs.Session.{SessionState}
-use Rattle.am_line_dialogue.specs.declared.lines.ParsedLine.{ParsedLine}
 use Rattle.am_line_dialogue.specs.declared.lines.ParsedLine.TheVariants.{Asked, Faulty}
 use Rattle.am_replica_blocks.specs.Blocks.{BlockLine, Asks, Stages, line_request, staged_by, waiting, asked_ops}
 use Rattle.am_replica_lines.specs.Lines.{said, asked_by, is_own, at_work, op_by, TakesLine}
@@ -39,14 +38,6 @@ asks_whole text read request (inr (is, due)) same = absurd (asked_no_fault reque
 pub parsed_asks : (line : TextLine) (request : Request) → MayParse line (Asked request) → parsed line ≡ Asked request
 parsed_asks None request h = cc
 parsed_asks (Some text) request h = asks_whole text h.0 request h.1 h.2
-
--- what came of the line, where it was taken
-pub takes_by : {E : Type 0} (staged : Records) (line : BlockLine) {says : ParsedLine} (result : Result (Option Op) E)
-    (after : SessionState) → says ≡ Asked (line_request line) → IfOk result (λ op. op ≡ op_by staged line) →
-    IfOk result (λ _. after ≡ at_work (waiting staged (line ∷ []))) →
-    IfOk result (λ op. TakesLine staged says op after)
-takes_by staged line (Ok op) after asks by left = record { line = line; asks = asks; by = by; left = left }
-takes_by staged line (Err e) after asks by left = tt
 
 -- ---- the first line
 
@@ -109,7 +100,7 @@ reads_none text first s at = record {
     take_none zero = refl
     take_none (suc n) = refl
 
-said-cut : (rest line after : List ℕ) → pieces_of rest ≡ line ∷ pieces_of after →
+pub said-cut : (rest line after : List ℕ) → pieces_of rest ≡ line ∷ pieces_of after →
     said rest ≡ parsed (line_of line) ∷ said after
 said-cut rest line after cut = ap (λ pieces. map parsed (map line_of pieces)) cut
 

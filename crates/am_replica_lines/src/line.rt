@@ -1,14 +1,12 @@
 //! One line of a block.
 
 ghost use Rattle.std.specs.Prelude.{◌≡◌, ◌≢◌, ◌+◌, ◌≤◌, List, [], ◌∷◌, ◌++◌, length, drop, false, Some, None, is_some};
-ghost use Rattle.std.specs.Prelude.{IfOk, IfSome};
+ghost use Rattle.std.specs.Prelude.{IfOk, OnOk, IfSome};
 ghost use Rattle.am_record.specs.Records.{Records as TheRecords};
 ghost use Rattle.am_line_source.specs.Lines.{pieces_of, without_cr, line_of, HasNoLf, has_lf};
-ghost use Rattle.am_line_dialogue.specs.Actions.{with_staged, staged_left};
+ghost use Rattle.am_line_dialogue.specs.Actions.{with_staged, staged_left, stage_response};
 ghost use Rattle.am_line_dialogue.specs.ParsedLine.{parsed, MayParse};
 ghost use Rattle.am_replica_blocks.specs.Blocks.{staged_by};
-ghost use Rattle.am_replica_lines.specs.declared.fault.BlockFault.{BlockFault as TheFault};
-ghost use Rattle.am_replica_lines.specs.declared.fault.BlockFault.TheVariants.{NoMemory as OutOfMemory};
 ghost use Rattle.am_replica_lines.specs.Lines.{at_work, is_own, TakesLine};
 
 use crate::fault::BlockFault;
@@ -16,11 +14,11 @@ use am_line_dialogue::{Action, ParsedLine, Response, Session, parse};
 use am_line_source::{LineKind, MAX_LINE_LEN};
 use am_line_text::LineFault;
 use am_line_wire::Request;
-use am_record::{Op, Records, Step};
+use am_record::{NoMemory, Op, Records, Step};
 use std::alloc::Global;
 
 /// The first line of some bytes, without its LF, and what stands after it.
-pub(crate) fn cut_line(bytes: &[u8]) -> (&[u8], &[u8])
+pub fn cut_line(bytes: &[u8]) -> (&[u8], &[u8])
     requires { bytes.now ≢ [] }
     ensures cut { pieces_of bytes.now ≡ result.0.now ∷ pieces_of result.1.now }
     ensures shorter { length result.1.now + 1 ≤ length bytes.now }
@@ -76,36 +74,45 @@ pub(crate) fn take_line(
     ensures not_staged { result ≢ Err BlockFault.StillStaged }
 {
     match parse_cut(alloc, line) {
-        ParsedLine::Asked(Request::Do(op)) => operation(session, op),
-        ParsedLine::Asked(Request::Stage(records)) => stage(session, records),
+        ParsedLine::Asked(Request::Do(op)) => Ok(Some(take_along(session, op)?)),
+        ParsedLine::Asked(Request::Stage(records)) => {
+            drop(stage(session, records)?);
+            Ok(None)
+        }
         ParsedLine::Faulty(LineFault::NoMemory) => Err(BlockFault::NoMemory),
         _ => Err(BlockFault::OtherLine),
     }
 }
 
-// The operation with what waits.
-fn operation(session: &mut Session, op: Op) -> Result<Option<Op>, BlockFault>
+/// The operation with what waits.
+///
+/// # Errors
+/// NoMemory, where memory was refused.
+pub fn take_along(session: &mut Session, op: Op) -> Result<Op, NoMemory>
     ensures asks { (staged : TheRecords) → session.old ≡ at_work staged →
-        IfOk result (λ whole. whole ≡ Some (with_staged staged op)) }
+        IfOk result (λ whole. whole ≡ with_staged staged op) }
     ensures left { (staged : TheRecords) → session.old ≡ at_work staged →
-        IfOk result (λ _. session.new ≡ at_work (staged_left staged op)) }
-    ensures memory { (fault : TheFault) → result ≡ Err fault → fault ≡ OutOfMemory }
+        OnOk result (session.new ≡ at_work (staged_left staged op)) }
 {
     match session.action(ParsedLine::Asked(Request::Do(op))) {
-        Action::Take(Step::Do(_, whole)) => Ok(Some(whole)),
-        _ => Err(BlockFault::NoMemory),
+        Action::Take(Step::Do(_, whole)) => Ok(whole),
+        _ => Err(NoMemory),
     }
 }
 
-// Records wait, where there is room beside those that wait already.
-fn stage(session: &mut Session, records: Records) -> Result<Option<Op>, BlockFault>
-    ensures none { IfOk result (λ op. op ≡ None) }
+/// Has records wait, where there is room beside those that wait already, and says what the line is answered.
+///
+/// # Errors
+/// NoMemory, where memory was refused.
+pub fn stage(session: &mut Session, records: Records) -> Result<Response, NoMemory>
+    ensures says { (staged : TheRecords) → session.old ≡ at_work staged →
+        IfOk result (λ response. response ≡ stage_response staged records) }
     ensures left { (staged : TheRecords) → session.old ≡ at_work staged →
-        IfOk result (λ _. session.new ≡ at_work (staged_by staged records)) }
-    ensures memory { (fault : TheFault) → result ≡ Err fault → fault ≡ OutOfMemory }
+        OnOk result (session.new ≡ at_work (staged_by staged records)) }
 {
     match session.action(ParsedLine::Asked(Request::Stage(records))) {
-        Action::Answer(Response::Faulty(_)) => Err(BlockFault::NoMemory),
-        _ => Ok(None),
+        Action::Answer(Response::Faulty(_)) => Err(NoMemory),
+        Action::Answer(response) => Ok(response),
+        _ => Err(NoMemory),
     }
 }

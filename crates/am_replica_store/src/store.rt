@@ -5,7 +5,7 @@ ghost use Rattle.am_record.specs.Limits.{max_runs};
 ghost use Rattle.am_record.specs.Plain.{PlainMap};
 ghost use Rattle.am_record.specs.declared.step.Op.{Op as TheOp};
 ghost use Rattle.am_replica.specs.Bodies.{reply_behind, own_behind};
-ghost use Rattle.am_law_sound.specs.StoreState.{empty_state};
+ghost use Rattle.am_law_sound.specs.StoreState.{empty_state, MayAnswer, state_after};
 ghost use Rattle.am_replica_store.specs.Alone.{committed_map, draft_map, IsIdle, IsAlone, IsInside, is_out_of_room};
 ghost use Rattle.am_replica_store.specs.Alone.{IsCommitted, IsAborted};
 
@@ -69,6 +69,8 @@ impl ReplicaStore {
     /// Merges what was read, at most so many entries, between two transactions. No answer changes by it.
     pub fn merge(&mut self, limit: u64) -> Reply
         requires { IsIdle self.old }
+        ensures says { MayAnswer self.old (Step.Merge limit) result }
+        ensures after { self.new ≡ state_after self.old (Step.Merge limit) result }
         ensures same { committed_map self.new ≡ committed_map self.old }
         ensures idle { IsIdle self.new }
     {
@@ -79,6 +81,8 @@ impl ReplicaStore {
     /// changes by it.
     pub fn clean(&mut self, range: Range, limit: u64) -> Reply
         requires { IsIdle self.old }
+        ensures says { MayAnswer self.old (Step.Clean range limit) result }
+        ensures after { self.new ≡ state_after self.old (Step.Clean range limit) result }
         ensures same { committed_map self.new ≡ committed_map self.old }
         ensures idle { IsIdle self.new }
     {

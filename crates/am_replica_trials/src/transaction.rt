@@ -2,23 +2,21 @@
 
 ghost use Rattle.std.specs.Prelude.{◌≡◌, ◌+◌, ◌*◌, ◌<◌, ◌^◌, ◌++◌, ◌∷◌, [], List, Some, None, true, false, IfOk, OnOk};
 ghost use Rattle.std.specs.Prelude.{nat_le, length};
-ghost use Rattle.am_record.specs.Records.{Records as TheRecords};
 ghost use Rattle.am_line_source.specs.Lines.{HasNoLf, line_of};
 ghost use Rattle.am_line_dialogue.specs.ParsedLine.{parsed};
 ghost use Rattle.am_line_dialogue.specs.declared.lines.ParsedLine.TheVariants.{Asked};
-ghost use Rattle.am_line_dialogue.specs.Actions.{with_staged, staged_left, stage_response};
-ghost use Rattle.am_replica_blocks.specs.Blocks.{BlockLine, staged_by, waiting, asked_ops};
-ghost use Rattle.am_replica_lines.specs.Lines.{at_work, AsksOps, told_lines};
+ghost use Rattle.am_replica_blocks.specs.Blocks.{BlockLine, waiting, asked_ops};
+ghost use Rattle.am_replica_lines.specs.Lines.{AsksOps, told_lines};
 ghost use Rattle.am_replica_trials.specs.Trials.{HasLines, IsLineAnswered, has_room};
 
 use crate::answer::TrialAnswer;
-use am_line_dialogue::{Action, ParsedLine, Response, Session};
+use am_line_dialogue::{ParsedLine, Session};
 use am_line_text::LineFault;
 use am_line_wire::Request;
-use am_record::{NoMemory, Op, Records, Reply, Step};
+use am_record::{NoMemory, Op, Reply};
 use am_replica::{Digest, Machine, Transaction, TrialFault};
 use am_replica_entries::{Block, Told};
-use am_replica_lines::parse_cut;
+use am_replica_lines::{parse_cut, stage, take_along};
 use std::alloc::Global;
 use std::marker::Model;
 
@@ -107,7 +105,7 @@ impl LineTransaction {
                 if !self.has_room(line) {
                     return Ok(TrialAnswer::Limit);
                 }
-                let response = staged(&mut self.session, records)?;
+                let response = stage(&mut self.session, records)?;
                 self.keep(line)?;
                 Ok(TrialAnswer::Stage(response))
             }
@@ -163,7 +161,7 @@ impl LineTransaction {
             IfOk result (λ answer.
             IsLineAnswered D.digest_of own self.old line.now (M.map machine.old) answer self.new) }
     {
-        let whole = [taken(&mut self.session, op)?];
+        let whole = [take_along(&mut self.session, op)?];
         let told = self.transaction.trial(alloc, machine, digest, &whole);
         match told {
             Err(TrialFault::NoMemory) => Err(NoMemory),
@@ -225,31 +223,4 @@ fn told_of(alloc: Global, transaction: Transaction, answered: u32) -> Result<Opt
         lines: answered,
         digest,
     }))
-}
-
-// The operation with what waits.
-fn taken(session: &mut Session, op: Op) -> Result<Op, NoMemory>
-    ensures asks { (staged : TheRecords) → session.old ≡ at_work staged →
-        IfOk result (λ whole. whole ≡ with_staged staged op) }
-    ensures left { (staged : TheRecords) → session.old ≡ at_work staged →
-        OnOk result (session.new ≡ at_work (staged_left staged op)) }
-{
-    match session.action(ParsedLine::Asked(Request::Do(op))) {
-        Action::Take(Step::Do(_, whole)) => Ok(whole),
-        _ => Err(NoMemory),
-    }
-}
-
-// Records wait, where there is room beside those that wait already.
-fn staged(session: &mut Session, records: Records) -> Result<Response, NoMemory>
-    ensures says { (staged : TheRecords) → session.old ≡ at_work staged →
-        IfOk result (λ response. response ≡ stage_response staged records) }
-    ensures left { (staged : TheRecords) → session.old ≡ at_work staged →
-        OnOk result (session.new ≡ at_work (staged_by staged records)) }
-{
-    match session.action(ParsedLine::Asked(Request::Stage(records))) {
-        Action::Answer(Response::Faulty(_)) => Err(NoMemory),
-        Action::Answer(response) => Ok(response),
-        _ => Err(NoMemory),
-    }
 }

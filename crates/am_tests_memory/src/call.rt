@@ -4,6 +4,7 @@ use crate::entries::entry_of_two;
 use crate::fault::Fault;
 use crate::indexes::list_of_five;
 use crate::loads::loads_of_a_list;
+use crate::outcomes::outcomes_of_a_block;
 use crate::plain_map::{plain_alone, plain_answers};
 use crate::rows_back::{rows_back_of_a_list, scans_back};
 use crate::texts::replies;
@@ -20,10 +21,11 @@ pub(crate) enum Call {
     PlainAlone,
     Replies,
     EntryOfTwo,
+    OutcomesOfABlock,
 }
 
 /// All calls.
-pub(crate) const CALLS: [Call; 8] = [
+pub(crate) const CALLS: [Call; 9] = [
     Call::ListOfFive,
     Call::RowsBackOfAList,
     Call::ScansBack,
@@ -32,6 +34,7 @@ pub(crate) const CALLS: [Call; 8] = [
     Call::PlainAlone,
     Call::Replies,
     Call::EntryOfTwo,
+    Call::OutcomesOfABlock,
 ];
 
 impl Call {
@@ -45,6 +48,7 @@ impl Call {
             Call::PlainAlone => "plain_alone",
             Call::Replies => "replies",
             Call::EntryOfTwo => "entry_of_two",
+            Call::OutcomesOfABlock => "outcomes_of_a_block",
         }
     }
 
@@ -59,6 +63,7 @@ impl Call {
             Call::PlainAlone => plain_alone(alloc),
             Call::Replies => replies(alloc),
             Call::EntryOfTwo => entry_of_two(alloc),
+            Call::OutcomesOfABlock => outcomes_of_a_block(alloc),
         }
     }
 }

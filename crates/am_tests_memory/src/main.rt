@@ -9,6 +9,7 @@ mod fault;
 mod indexes;
 mod loads;
 mod numbers;
+mod outcomes;
 mod plain_map;
 mod rows_back;
 mod texts;

@@ -15,8 +15,8 @@ returns-clause-answered g c own has room asks =
     let is = c.self.view_is in
     let waits = ap (λ (s : TrialState). s.session) is ∙ has.waits in
     let told = ap (λ (s : TrialState). s.transaction) is in
-    let whole : c.in_ok-taken.field-0 ∷ [] ≡ whole_op own c.args.op =
-    ap (λ (op : Op). op ∷ []) (c.in_ok-taken.ensures.asks (waiting [] own) waits) in
+    let whole : c.in_ok-take_along.field-0 ∷ [] ≡ whole_op own c.args.op =
+    ap (λ (op : Op). op ∷ []) (c.in_ok-take_along.ensures.asks (waiting [] own) waits) in
     let kept = c.in_ok-keep-in-Ok.ensures in
     replied digest own old new c.args.line.now has c.requires.one room c.requires.not_over c.args.op m
     c.pop.new.self.items
@@ -29,7 +29,7 @@ returns-clause-answered g c own has room asks =
     (kept.transaction ∙ c.in-Ok.ensures.goes_on
     ∙ ap (λ ops. behind_lines digest c.self.inside.transaction ops m) whole
     ∙ ap (λ t. behind_lines digest t (whole_op own c.args.op) m) told)
-    (kept.session ∙ c.in_ok-taken.ensures.left (waiting [] own) waits)
+    (kept.session ∙ c.in_ok-take_along.ensures.left (waiting [] own) waits)
     (kept.lines ∙ ap (λ (s : TrialState). s.lines ++ (c.args.line.now ++ 10 ∷ [])) is)
     (kept.answered ∙ ap (λ (s : TrialState). s.answered + 1) is)
     (kept.over ∙ ap (λ (s : TrialState). s.is_over) is)
