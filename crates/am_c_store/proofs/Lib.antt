@@ -1,3 +1,1 @@
-mod Handles
-mod LooseValues
 mod Turns

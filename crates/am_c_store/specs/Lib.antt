@@ -1,4 +1,4 @@
 pub mod Loads
-pub mod Ownership
 pub mod StoreFigures
+pub mod StoreRow
 pub mod StoreSteps

@@ -3,7 +3,6 @@
 
 mod figures;
 mod handle;
-mod loose;
 mod runs;
 mod store;
 mod store_steps;

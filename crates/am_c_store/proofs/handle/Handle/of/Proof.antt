@@ -1,27 +1,23 @@
 -- `of` moves the pointer and the heap's handle over.
-use Rattle.std.proofs.Common.{◌≡◌, List, [], ◌∷◌, ◌++◌, refl, sym, subst}
-use mir.Val.{Val, vptr}
-use base.Logic.{ent, emp, id⊢, SProp}
+use Rattle.std.proofs.Common.{◌≡◌, [], ◌∷◌, refl}
+use mir.Val.{Val}
+use base.Logic.{SProp, emp}
 use base.Fml.{ftrue}
-use prog.Wp.{WpFn}
 use types.Kit.{‵, raw, ◌⊛◌, ◌$◌, ◌∵◌, !, qed, by, move, keep, split, fsplit, fjoin, suffices, use0}
-use types.Run.{stop, fld, of_opd, no_more, and_then, returns, enter}
-use types.ByLocal.{alloc_all, pass_all, free_all, look_at, get, get_in, sets}
-use types.Part.{agg, sub, whole}
 use contract.Monad.{fact, fact_i}
 use contract.Running.{tables}
 use denote.Exit.{yes}
 use denote.RattleType.{RattleType, owns}
 use denote.Signature.{types_at, plain}
-use denote.RawPtr.{block_ptr}
+use denote.RawPtr.{ptr_val}
 use denote.Steps.{nothing}
 use denote.Triple.Walked.{Stays, stay_dropped, walk_of, Goes-dropped}
-use Rattle.std.specs.declared.option.Option.TheVariants.{Some}
 use Rattle.std.proofs.raw_atomic.Walks.{proved_at, leaves}
-use Rattle.std.proofs.alloc.Global.TheLaws as heap_laws
-use Rattle.std.specs.contracts.impls.GlobalAllocator.TheImpl.{ghosts}
-use Rattle.am_c_store.proofs.LooseValues.{both, Loose, loose_good, loose_out}
-use Rattle.am_c_store.proofs.Handles.{R, Z, Handle, handle_in}
+use Rattle.am_c_handle.proofs.LooseValues.{both}
+use Rattle.am_c_handle.proofs.HeldValues.{Held, held_out, held_in}
+use Rattle.am_c_handle.proofs.Moves.{moves}
+use Rattle.am_c_store.specs.StoreRow.{store_row}
+use Rattle.am_c_store.specs.contracts.handle.Handle as handle
 use Rattle.am_c_store.specs.contracts.handle.Handle.of.{ended, clauses}
 use Rattle.am_c_store.specs.contracts.handle.Handle.of.Key.{name as #self}
 use Rattle.am_c_store.proofs.handle.Handle.of.Statement.{statement}
@@ -29,26 +25,16 @@ use Rattle.am_c_store.proofs.handle.Handle.of.Code as code
 
 pub of_spec : {M : Type 1} → statement M
 of_spec 𝓤 𝓛 𝓜 𝓡 wired =
-    let H = 𝓛.H in let 𝓣 = tables 𝓤 H 𝓜 𝓡 𝓡.env in let LZ = heap_laws.the_row_laws in let c = clauses 𝓛 𝓜.mem 𝓡.returns
-    in let fn = code.function in
-    let Lr : RattleType = Loose R Z LZ ghosts in let hs : Stays ended.signature.params ended.kept =
-    (stay_dropped (plain (λ _. Lr)) yes, tt) in
-    proved_at 𝓛 ended hs c 𝓜 𝓡 (Goes-dropped 𝓛 0 (plain (λ _. Lr)) yes (λ κs x f. refl), tt) #self fn
+    let H = 𝓛.H in let 𝓣 = tables 𝓤 H 𝓜 𝓡 𝓡.env in let c = clauses 𝓛 𝓜.mem 𝓡.returns in
+    let R : RattleType = store_row in let Hr : RattleType = Held R in let Out : RattleType = handle.the_row in
+    let hs : Stays ended.signature.params ended.kept = (stay_dropped (plain (λ _. Hr)) yes, tt) in
+    proved_at 𝓛 ended hs c 𝓜 𝓡 (Goes-dropped 𝓛 0 (plain (λ _. Hr)) yes (λ κs x f. refl), tt) #self code.function
     (code.unfolded 𝓤 H 𝓜 𝓡 wired) (λ z are.
-    let κs = z.0.0 in let d = z.0.3.0 in let Post : Val → SProp 𝓤 = (walk_of 𝓛 ended hs c).post z in
-    let Run : List Val → SProp 𝓤 = λ ws. WpFn 𝓤 H 𝓣.C 𝓣.Λ fn ws Post in
+    let κs = z.0.0 in let d = z.0.3.0 in let vs = z.0.4.0 in let Post : Val → SProp 𝓤 = (walk_of 𝓛 ended hs c).post z in
+    let made : Out.Denot = record { at = d.at; alloc = d.alloc; held = d.value } in
     qed 𝓛 ((‵ ftrue ⊛ ‵ (owns (types_at ended.signature.params κs) z.0.3 z.0.4)) ∷ raw ((c κs z.0.3).requires z.1) ∷ [])
-    ∵ split ! $ move ! (1 ∷ []) $ fsplit ! $ loose_out R Z LZ ghosts ! d z.0.4.0 (λ b o h e ws fits.
-    let w : Val = both (vptr b o) h in let typed = loose_good R Z LZ ghosts b o h fits in
-    let made : Handle.Denot = record { at = block_ptr b o; alloc = d.alloc; held = Some d.value } in
-    suffices ! (Run (w ∷ [])) (subst (λ (us : List Val). ent 𝓤 (Run (w ∷ [])) (Run us)) (sym (λ i. ws i ++ []))
-    (id⊢ 𝓤 (Run (w ∷ [])))) $
-    enter ! 𝓣.C 𝓣.Λ fn (w ∷ []) Post $ alloc_all ! (λ l. pass_all ! refl (typed, tt) $
-    sets ! (of_opd ! (get_in ! (fld ! refl (stop !)) (sub ! 0 refl (whole !)))) refl (tt, tt) $ sets !
-    (of_opd ! (get_in ! (fld ! refl (stop !)) (sub ! 1 refl (whole !)))) refl fits $
-    sets ! (of_opd ! (get ! refl)) refl (tt, tt) $ sets !
-    (agg ! (and_then ! (get ! refl) (and_then ! (get ! refl) (no_more !)))) refl typed $
-    handle_in ! h made $ use0 𝓛 (raw (fact 𝓤 (made.held ≡ Some d.value)))
-    (fact_i 𝓤 (made.held ≡ Some d.value) (emp 𝓤) refl) $ nothing ! $ nothing ! $ fjoin ! $
-    returns ! (look_at ! 0 refl) $ free_all ! refl $ keep ! (4 ∷ 0 ∷ 2 ∷ 1 ∷ []) $ by !
-    (leaves 𝓛 ended hs c z w made (tt, tt) (tt, tt)))))
+    ∵ split ! $ move ! (1 ∷ []) $ fsplit ! $ held_out R ! d vs (λ h is fits. let w : Val = both (ptr_val d.at) h in
+    suffices ! (Post w) (moves 𝓛 𝓣.C 𝓣.Λ _ _ d.at h vs Post is fits) $
+    held_in R ! h d $ use0 𝓛 (raw (fact 𝓤 (made.held ≡ d.value))) (fact_i 𝓤 (made.held ≡ d.value) (emp 𝓤) refl) $
+    nothing ! $ nothing ! $ fjoin ! $ keep ! (4 ∷ 0 ∷ 2 ∷ 1 ∷ []) $ by !
+    (leaves 𝓛 ended hs c z w made (tt, tt) (tt, tt))))

@@ -1,4 +1,4 @@
--- What a handle owns.
+-- What is owned behind a pointer that may be null.
 use Rattle.std.specs.Prelude.{◌≡◌, Option, None, Some}
 use base.Fml.{Fml, ftrue, ffalse}
 use denote.RattleType.{RattleType}
@@ -6,13 +6,6 @@ use denote.RawPtr.{Ptr, block_ptr, null_ptr}
 use Rattle.std.specs.Box.Ownership.{box_owns}
 use Rattle.std.specs.declared.alloc.Global.{Global}
 use Rattle.std.specs.contracts.impls.GlobalAllocator.TheImpl.{ghosts}
-use Rattle.am_index_btree.specs.contracts.btree.BTree as tree
-use Rattle.am_index_btree.specs.contracts.btree.BTreePartIndex.TheImpl as tree_index
-use Rattle.am_store.specs.contracts.store.Store as store
-
--- a store over a B-tree
-abbrev pub store_row : RattleType
-store_row = store.the_row tree.the_row tree_index.ghosts
 
 -- at null nothing, and else the box there with the value
 abbrev pub held_owns : (R : RattleType) → Global → Ptr → Option R.Denot → Fml

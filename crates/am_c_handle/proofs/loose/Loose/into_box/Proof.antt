@@ -32,13 +32,13 @@ use Rattle.core.proofs.cell.Inside.{Good}
 use Rattle.std_alloc.proofs.BoxSteps.Form as box
 use Rattle.std_alloc.proofs.BoxSteps.Steps.{box_out, box_in}
 use Rattle.std.proofs.raw_atomic.Walks.{proved_at, leaves}
-use Rattle.am_c_store.proofs.LooseValues.{both, Loose, loose_good, loose_out}
+use Rattle.am_c_handle.proofs.LooseValues.{both, Loose, both_good, loose_out}
 use Rattle.std_alloc.specs.contracts.boxed.Box.from_raw as callee
 use Rattle.std_alloc.proofs.boxed.Box.from_raw.Met.{met}
-use Rattle.am_c_store.specs.contracts.loose.Loose.into_box.{ended, clauses}
-use Rattle.am_c_store.specs.contracts.loose.Loose.into_box.Key.{name as #self}
-use Rattle.am_c_store.proofs.loose.Loose.into_box.Statement.{statement}
-use Rattle.am_c_store.proofs.loose.Loose.into_box.Code as code
+use Rattle.am_c_handle.specs.contracts.loose.Loose.into_box.{ended, clauses}
+use Rattle.am_c_handle.specs.contracts.loose.Loose.into_box.Key.{name as #self}
+use Rattle.am_c_handle.proofs.loose.Loose.into_box.Statement.{statement}
+use Rattle.am_c_handle.proofs.loose.Loose.into_box.Code as code
 
 pub into_box_spec : {M : Type 1} → statement M
 into_box_spec 𝓤 𝓛 𝓜 𝓡 wired T A L LA g d dx dd allocator glue glued =
@@ -57,7 +57,7 @@ into_box_spec 𝓤 𝓛 𝓜 𝓡 wired T A L LA g d dx dd allocator glue glued 
     let toks = ‵ (flft κs.0 qs.0) ⊛ ‵ (flft κs.1.0 qs.1.0) ⊛ ‵ ftrue in let asked = raw ((c κs z.0.3).requires z.1) in
     qed 𝓛 ((toks ⊛ ‵ (owns (types_at En.signature.params κs) z.0.3 z.0.4)) ∷ asked ∷ []) ∵ split ! $ move ! (1 ∷ []) $
     fsplit ! $ loose_out R Z LZ g ! v z.0.4.0 (λ b o h e ws fits.
-    let w : Val = both (vptr b o) h in let typed = loose_good R Z LZ g b o h fits in
+    let w : Val = both (vptr b o) h in let typed = both_good R Z LZ g (block_ptr b o) h fits in
     let k = triple_of 𝓛 (callee.signature T A g d dd) (callee.spec T A g d dd 𝓛 𝓜.mem 𝓡.returns) in
     let y : k.Ghost = ((κs, qs, tt, (a, (block_ptr b o, tt)), (h ∷ [], (vptr b o ∷ [], tt))), v.value) in
     let B : RattleType = box.B E in
@@ -80,7 +80,8 @@ into_box_spec 𝓤 𝓛 𝓜 𝓡 wired T A L LA g d dx dd allocator glue glued 
     (λ _. split3 ! $ drop ! $ move ! (2 ∷ []) $ split ! $ move ! (1 ∷ []) $
     box_out E ! r (u ∷ []) (λ b' o' h' e' us fits'. box_in E ! r b' o' r.value e' refl $ rewrite ! 0
     (λ (xs : List Val). ‵ (B.own_val r xs)) (sym us) refl $
-    let good : Good (layout B) u = subst (Good (layout B)) (sym (ap only us)) (loose_good R Z LZ g b' o' h' fits') in
+    let good : Good (layout B) u = subst (Good (layout B)) (sym (ap only us))
+    (both_good R Z LZ g (block_ptr b' o') h' fits') in
     lands_last ! refl good $ exec ! 𝓣.C 𝓣.Λ Ev (after 3 fn.body) (at_ret Ev Post) $ sets ! (of_opd ! (get ! refl)) refl
     good $ nothing ! $ nothing ! $ fjoin ! $
     returns ! (look_at ! 0 refl) $ free_all ! refl $ keep ! (2 ∷ 0 ∷ 1 ∷ 3 ∷ []) $ by !

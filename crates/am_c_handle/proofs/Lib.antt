@@ -1,0 +1,3 @@
+pub mod HeldValues
+pub mod LooseValues
+pub mod Moves
