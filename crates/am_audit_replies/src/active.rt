@@ -1,6 +1,6 @@
 //! The active transactions of a trace.
 
-ghost use Rattle.std.specs.Prelude.{◌≡◌, ◌==◌, ◌<◌, ℕ, not, map, filter, length, true};
+ghost use Rattle.std.specs.Prelude.{◌≡◌, ◌==◌, ◌<◌, ℕ, not, map, filter, remove, length, true};
 ghost use Rattle.std.specs.Prelude.{false, [], IfSome, IfNone, IfOk, OnOk, Some, is_some};
 ghost use Rattle.am_record.specs.ByNumber.{RiseBy};
 ghost use Rattle.am_audit_replies.specs.OwnAnswers.{listed, is_listed, place_in, own_in, placed_answer, with_own};
@@ -94,7 +94,9 @@ pub fn keep_answer(all: &mut [Active], place: usize, kept: OwnAnswer) -> Result<
 /// Forgets the transaction that stands there: it is not active any more.
 pub fn forget(all: &mut Vec<Active>, place: usize)
     requires { place < length all.old.items }
-    ensures { (tx : ℕ) → place_in all.old.items tx ≡ Some place → RiseBy (λ x. x.0) (map listed all.old.items) →
+    ensures removed { all.new.items ≡ remove all.old.items place }
+    ensures others { (tx : ℕ) → place_in all.old.items tx ≡ Some place →
+        RiseBy (λ x. x.0) (map listed all.old.items) →
         map listed all.new.items ≡ filter (λ x. not (x.0 == tx)) (map listed all.old.items) }
 {
     let _ended = all.remove(place);

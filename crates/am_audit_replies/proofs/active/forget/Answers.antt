@@ -6,8 +6,8 @@ use Rattle.am_audit_replies.proofs.Actives.{list_kept}
 use Rattle.am_audit_replies.proofs.Places.{place_is, number_there}
 use Rattle.am_audit_replies.proofs.active.forget.Goals as goal
 
-pub returns : goal.returns
-returns c tx asked rising =
+pub returns-clause-others : goal.returns-clause-others
+returns-clause-others c tx asked rising =
     let all = c.args.all.now.items in
     let at = place_is tx all c.args.place asked in
     let d = c.remove-ended.result in
