@@ -134,8 +134,8 @@ OPERATIONS = ("Replace", "Set", "Put", "ScanBack", "DeleteRange")
 
 def operation_files() -> Dict[str, List[str]]:
     """The files of each kind that name the operation which most files name, outside their comments. Worked traces and tests don't
-    count."""
-    worked = re.compile(r"crates/(am_tests_memory|am_law_serial/specs/Rows|am_law_serial/proofs/worked_)")
+    count, and neither does the log of replicas, whose puts are etcd's."""
+    worked = re.compile(r"crates/(am_tests_memory|am_replica_log/|am_law_serial/specs/Rows|am_law_serial/proofs/worked_)")
     kinds = {"sources": "src", "specifications": "specs", "files of proofs": "proofs"}
     texts = {kind: [(os.path.relpath(it, TOP), text_of(it)) for it in sources(folder)] for kind, folder in kinds.items()}
     found = [
@@ -153,6 +153,6 @@ def names_each(text: str, *names: str) -> bool:
 
 def faults_of_operations() -> Iterator[str]:
     """A new operation touches few files."""
-    for (kind, files), most in zip(operation_files().items(), (19, 22, 20)):
+    for (kind, files), most in zip(operation_files().items(), (17, 20, 19)):
         if len(files) > most:
             yield f"tools/operation_files.py: {len(files)} {kind} name one operation, and {most} may"

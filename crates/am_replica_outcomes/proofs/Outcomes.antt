@@ -1,5 +1,5 @@
 -- Answers, line by line.
-use Rattle.std.proofs.Common.{◌≡◌, ℕ, ◌+◌, zero, suc, List, [], ◌∷◌, ◌++◌, length, drop, refl, sym, ap, ◌∙◌}
+use Rattle.std.proofs.Common.{◌≡◌, ℕ, ◌+◌, ◌-◌, zero, suc, List, [], ◌∷◌, ◌++◌, length, drop, refl, sym, ap, ◌∙◌}
 use Rattle.std.proofs.Common.{append_assoc, append-nil, arith}
 use Rattle.std.specs.Prelude.{◌==◌, true}
 use Rattle.std.proofs.Math.Seq.{drop-nil}
@@ -20,7 +20,7 @@ use Rattle.am_line_dialogue.specs.declared.response.Response.TheVariants.{Replie
 use Rattle.am_replica_blocks.specs.Blocks.{BlockLine, Asks, Stages, line_request, staged_by, told}
 use Rattle.am_replica_lines.specs.Lines.{said, asked_by, at_work}
 use Rattle.am_replica_lines.proofs.Lines.{said-cut}
-use Rattle.am_replica_outcomes.specs.Outcomes.{response_texts, IsWritten}
+use Rattle.am_replica_outcomes.specs.Outcomes.{response_texts, conflict, conflict_texts, IsWritten}
 
 pub texts-append : (front rest : List Response) →
     response_texts (front ++ rest) ≡ response_texts front ++ response_texts rest
@@ -167,3 +167,56 @@ module _ (rest line after : List ℕ) (s s' : SessionState) (untold untold' : �
           so_far ++ response_texts (drop untold (told goes.staged (first ∷ lines) [])) ≡ whole → so_far ≡ whole
       by (Asks asked) e lines leads = none_left so_far whole untold leads
       by (Stages records) e lines leads = absurd (cc)
+
+-- Where the conflicts stand: the text goes on with these lines, so many are left out, and with all others the text so
+-- far is what is to be written.
+pub record Fails (rest : List ℕ) (untold : ℕ) (so_far whole : List ℕ) : Type 0 where
+  pub lines : List BlockLine
+  pub asks : said rest ≡ asked_by lines
+  pub leads : so_far ++ conflict_texts (drop untold lines) ≡ whole
+
+pub all_fail : (rest : List ℕ) (untold : ℕ) (so_far whole : List ℕ) → rest ≡ [] → Fails rest untold so_far whole →
+    so_far ≡ whole
+all_fail rest untold so_far whole empty fails = at fails.lines (ap said (sym empty) ∙ fails.asks) fails.leads
+  where
+    at : (lines : List BlockLine) → [] ≡ asked_by lines → so_far ++ conflict_texts (drop untold lines) ≡ whole →
+        so_far ≡ whole
+    at [] asks leads =
+        sym (append-nil so_far) ∙ ap (λ lines. so_far ++ conflict_texts lines) (sym (drop-nil untold)) ∙ leads
+    at (l ∷ lines) asks leads = absurd (cc)
+
+module _ (rest line after : List ℕ) (untold : ℕ) (so_far whole : List ℕ) (cut : pieces_of rest ≡ line ∷ pieces_of after)
+  where
+    -- one is written
+    pub fails : untold ≡ 0 → Fails rest untold so_far whole → Fails after untold (so_far ++ conflict) whole
+    fails none all =
+        let f = first_of rest line after all.lines cut all.asks in
+        by untold none f.first f.others f.rest
+        (ap (λ lines. so_far ++ conflict_texts (drop untold lines)) (sym f.split) ∙ all.leads)
+      where
+        by : (n : ℕ) → n ≡ 0 → (l : BlockLine) → (lines : List BlockLine) → said after ≡ asked_by lines →
+            so_far ++ conflict_texts (drop n (l ∷ lines)) ≡ whole → Fails after n (so_far ++ conflict) whole
+        by zero none l lines asks leads = record {
+          lines = lines;
+          asks = asks;
+          leads = append_assoc so_far conflict (conflict_texts lines) ∙ leads;
+        }
+        by (suc n) none l lines asks leads = absurd (omega (arith, none))
+
+    -- or left out
+    pub failed_before : (untold ≡ 0 → ⊥) → Fails rest untold so_far whole → Fails after (untold - 1) so_far whole
+    failed_before some all =
+        let f = first_of rest line after all.lines cut all.asks in
+        by untold some f.first f.others f.rest
+        (ap (λ lines. so_far ++ conflict_texts (drop untold lines)) (sym f.split) ∙ all.leads)
+      where
+        by : (n : ℕ) → (n ≡ 0 → ⊥) → (l : BlockLine) → (lines : List BlockLine) → said after ≡ asked_by lines →
+            so_far ++ conflict_texts (drop n (l ∷ lines)) ≡ whole → Fails after (n - 1) so_far whole
+        by zero some l lines asks leads = absurd (some refl)
+        by (suc n) some l lines asks leads =
+            let one_less : suc n - 1 ≡ n = omega arith in
+            record {
+              lines = lines;
+              asks = asks;
+              leads = ap (λ k. so_far ++ conflict_texts (drop k lines)) one_less ∙ leads;
+            }

@@ -1,1 +1,3 @@
 pub mod Outcomes
+pub mod Entries
+pub mod Trials

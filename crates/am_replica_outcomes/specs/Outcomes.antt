@@ -8,6 +8,13 @@ use Rattle.am_line_dialogue.specs.declared.response.Response.TheVariants.{Replie
 use Rattle.am_replica.specs.Ordered.{Verdict, Stands, Fails}
 use Rattle.am_replica_blocks.specs.Blocks.{BlockLine, told}
 
+-- what a line is answered whose transaction doesn't stand
+abbrev pub conflict : List ℕ
+conflict = line (codes "ERR CONFLICT")
+
+abbrev pub conflict_texts : List BlockLine → List ℕ
+conflict_texts lines = flat_map (λ _. conflict) lines
+
 -- the texts of responses, one after another
 abbrev pub response_texts : List Response → List ℕ
 response_texts responses = flat_map response_text responses
@@ -17,8 +24,9 @@ abbrev pub IsWritten : ℕ → Response → List ℕ → ℕ → List ℕ → Ty
 IsWritten zero response so_far told so_far' = (told ≡ 0) × (so_far' ≡ so_far ++ response_text response)
 IsWritten (suc n) response so_far told so_far' = (told ≡ n) × (so_far' ≡ so_far)
 
--- the answers to all lines but the first ones, which were answered before, and the number; or that it doesn't stand
+-- the answers to all lines but the first ones, which were answered before, and the number; or to each of these lines,
+-- and to COMMIT, that it doesn't stand
 abbrev pub told_at_end : ℕ → List BlockLine → Verdict → List ℕ
 told_at_end first lines (Stands number replies) =
     response_texts (drop first (told [] lines replies) ++ Replied (Committed number) ∷ [])
-told_at_end first lines Fails = line (codes "ERR CONFLICT")
+told_at_end first lines Fails = conflict_texts (drop first lines) ++ conflict

@@ -6,7 +6,7 @@ ghost use Rattle.am_line_wire.specs.Replies.{text_of};
 ghost use Rattle.am_replica.specs.Ordered.{verdict};
 ghost use Rattle.am_replica_blocks.specs.Blocks.{BlockLine, told};
 ghost use Rattle.am_replica_lines.specs.Lines.{said, asked_by, told_lines};
-ghost use Rattle.am_replica_outcomes.specs.Outcomes.{response_texts, told_at_end, IsWritten};
+ghost use Rattle.am_replica_outcomes.specs.Outcomes.{response_texts, conflict, conflict_texts, told_at_end, IsWritten};
 
 use am_line_dialogue::{ParsedLine, Response, Session, put_response};
 use am_line_sink::{Failed, StopSink, give_all};
@@ -17,9 +17,12 @@ use am_replica_entries::Block;
 use am_replica_lines::{cut_line, parse_cut, stage, take_along};
 use std::alloc::Global;
 
+// What a line is answered whose transaction doesn't stand.
+pub(crate) const CONFLICT: &[u8] = b"ERR CONFLICT\n";
+
 /// What the client of a block is told once it came in the log, and came to this: the answers to its lines, but for the
-/// first ones, which were answered before, each with its LF, and the number of its commit. Where it doesn't stand, that
-/// it is in conflict.
+/// first ones, which were answered before, each with its LF, and the number of its commit. Where it doesn't stand, each
+/// of these lines is answered that it is in conflict, and so is COMMIT.
 ///
 /// # Errors
 /// NoMemory, where memory was refused: the replica ends.
@@ -29,7 +32,7 @@ pub fn outcome_text(alloc: Global, block: &Block, outcome: &Outcome) -> Result<V
 {
     let mut sink = StopSink::new(alloc, 0);
     match outcome {
-        Outcome::Conflict => put(&mut sink, b"ERR CONFLICT\n")?,
+        Outcome::Conflict => put_conflicts(&mut sink, &block.lines, told_lines(block))?,
         Outcome::Committed(number, replies) => {
             put_answers(alloc, &mut sink, &block.lines, told_lines(block), replies)?;
             answer(&mut sink, &Reply::Committed(*number))?;
@@ -46,6 +49,27 @@ fn told_lines(block: &Block) -> usize
         None => 0,
         Some(told) => told.lines as usize,
     }
+}
+
+// The conflict, for each line after the first ones, and for COMMIT.
+fn put_conflicts(sink: &mut StopSink, text: &[u8], first: usize) -> Result<(), NoMemory>
+    requires empty { sink.old.bytes ≡ [] }
+    requires sound { sink.old.failures ≡ 0 }
+    ensures answers { (lines : List BlockLine) → said text.now ≡ asked_by lines →
+        OnOk result (sink.new.bytes ≡ conflict_texts (drop first lines) ++ conflict) }
+{
+    let mut told = first;
+    let mut rest = text;
+    while !rest.is_empty() {
+        let (_, after) = cut_line(rest);
+        if told == 0 {
+            put(sink, CONFLICT)?;
+        } else {
+            told -= 1;
+        }
+        rest = after;
+    }
+    put(sink, CONFLICT)
 }
 
 // The answers to the lines after the first ones.
@@ -119,7 +143,7 @@ fn respond_untold(
     Ok(())
 }
 
-fn answer(sink: &mut StopSink, reply: &Reply) -> Result<(), NoMemory>
+pub(crate) fn answer(sink: &mut StopSink, reply: &Reply) -> Result<(), NoMemory>
     requires { sink.old.failures ≡ 0 }
     ensures text { OnOk result (sink.new.bytes ≡ sink.old.bytes ++ text_of reply.now) }
     ensures sound { OnOk result (sink.new.failures ≡ 0) }
@@ -130,7 +154,7 @@ fn answer(sink: &mut StopSink, reply: &Reply) -> Result<(), NoMemory>
     }
 }
 
-fn respond(sink: &mut StopSink, response: &Response) -> Result<(), NoMemory>
+pub(crate) fn respond(sink: &mut StopSink, response: &Response) -> Result<(), NoMemory>
     requires { sink.old.failures ≡ 0 }
     ensures text { OnOk result (sink.new.bytes ≡ sink.old.bytes ++ response_text response.now) }
     ensures sound { OnOk result (sink.new.failures ≡ 0) }
@@ -141,7 +165,7 @@ fn respond(sink: &mut StopSink, response: &Response) -> Result<(), NoMemory>
     }
 }
 
-fn put(sink: &mut StopSink, text: &[u8]) -> Result<(), NoMemory>
+pub(crate) fn put(sink: &mut StopSink, text: &[u8]) -> Result<(), NoMemory>
     requires { sink.old.failures ≡ 0 }
     ensures text { OnOk result (sink.new.bytes ≡ sink.old.bytes ++ text.now) }
     ensures sound { OnOk result (sink.new.failures ≡ 0) }

@@ -1,8 +1,8 @@
 -- Entries of texts.
 use Rattle.std.proofs.Common.{◌≡◌, ℕ, List, [], ◌∷◌, ◌++◌, length, take, drop, get_or, ◌<◌, cond, ◌+◌, Bool, true}
 use Rattle.std.proofs.Common.{false, Ok, Err, refl, sym, ap, ◌∙◌}
-use Rattle.std.proofs.Common.{subst, arith, Vec}
-use Rattle.std.specs.Prelude.{suc, ◌^◌, Result, IfOk}
+use Rattle.std.proofs.Common.{subst, arith, ◌≤◌}
+use Rattle.std.specs.Prelude.{zero, suc, Result, IfOk}
 use Rattle.std.specs.List.{list_all}
 use Rattle.std.proofs.lemmas.Bool.{true≢false}
 use Rattle.std.proofs.lemmas.List.{map-append, take_more, take-append-drop, drop_more}
@@ -12,7 +12,7 @@ use Rattle.am_record.specs.declared.step.Reply.{Reply}
 use Rattle.am_line_wire.specs.declared.request.Request.TheVariants.{Do, Stage}
 use Rattle.am_line_dialogue.specs.declared.lines.ParsedLine.{ParsedLine}
 use Rattle.am_line_dialogue.specs.declared.lines.ParsedLine.TheVariants.{Asked}
-use Rattle.am_replica_entries.specs.Reading.{entry_in}
+use Rattle.am_replica_entries.specs.Reading.{entry_in, Fails as ReadFails}
 use Rattle.am_replica_entries.specs.declared.block.Block.{Block as EntryBlock}
 use Rattle.am_replica_entries.specs.Texts.{TheBlock, the_block, the_blocks}
 use Rattle.am_replica.specs.Bodies.{replies, leaves, given}
@@ -21,7 +21,12 @@ use Rattle.am_replica.specs.Ordered.{after_blocks}
 use Rattle.am_replica.specs.declared.block.Block.{Block}
 use Rattle.am_replica_blocks.specs.Blocks.{BlockLine, Asks, Stages, waiting, asked_ops}
 use Rattle.am_replica_lines.specs.Lines.{said, asked_by, is_own, LeavesWaiting, IsBlockOf, told_lines}
-use Rattle.am_replica_texts.specs.Entries.{AreBlocksOf, IsEntryOf, IsNoEntry}
+use Rattle.am_replica_entries.specs.declared.fault.Fault.{Fault}
+use Rattle.am_replica_entries.specs.declared.fault.ReadError.{ReadError}
+use Rattle.am_replica_entries.specs.declared.fault.ReadError.TheVariants.{NoEntry}
+use Rattle.am_replica_texts.specs.Entries.{AreBlocksOf, IsEntryOf, IsNoEntry, IsEntryApplied, IsApplied}
+use Rattle.am_replica_texts.specs.declared.apply.EntryOutcome.{EntryOutcome}
+use Rattle.am_replica_texts.specs.declared.apply.EntryOutcome.TheVariants.{Applied, Nothing}
 
 -- ---- what is asked tells the lines
 
@@ -117,6 +122,9 @@ each_alike digest (e ∷ entry) (a ∷ xs) [] s of_a of_b = absurd of_b
 ok_is_one : {A E : Type 0} {x y : A} → ◌≡◌ {A = Result A E} (Ok x) (Ok y) → x ≡ y
 ok_is_one e = cc
 
+ok_is_no_err : {A E : Type 0} {x : A} {e : E} → ◌≡◌ {A = Result A E} (Ok x) (Err e) → ⊥
+ok_is_no_err e = cc
+
 pub err_is_one : {A E : Type 0} {x y : E} → ◌≡◌ {A = Result A E} (Err x) (Err y) → x ≡ y
 err_is_one e = cc
 
@@ -177,12 +185,37 @@ none_at digest entry i block inside is none blocks of =
     none_of digest (the_blocks (take i entry)) (the_block block) (the_blocks (drop (i + 1) entry)) none blocks
     (subst (λ e. AreBlocksOf digest e blocks) parts of)
 
-pub few_blocks : {A E : Type 0} (digest : List Reply → Sum) (entry items : List EntryBlock)
-    (result : Result (Vec Block A) E) → entry ≡ items → length (the_blocks items) < 2 ^ 32 →
-    IfOk result (λ blocks. AreBlocksOf digest (the_blocks entry) blocks.items) →
-    IfOk result (λ blocks. length blocks.items < 2 ^ 32)
-few_blocks digest entry items (Ok blocks) same few of =
-    let long : length blocks.items ≡ length (the_blocks items) =
-    same_length digest (the_blocks entry) blocks.items of ∙ ap (λ es. length (the_blocks es)) same in
-    omega (arith, few, long)
-few_blocks digest entry items (Err e) same few of = tt
+pub at_most : (digest : List Reply → Sum) (n : ℕ) (entry : List EntryBlock) (blocks : List Block) →
+    AreBlocksOf digest (the_blocks (take n entry)) blocks → length blocks ≤ length entry
+at_most digest zero entry [] of = omega arith
+at_most digest zero entry (b ∷ blocks) of = absurd of
+at_most digest (suc n) [] [] of = omega arith
+at_most digest (suc n) [] (b ∷ blocks) of = absurd of
+at_most digest (suc n) (e ∷ entry) [] of = absurd of
+at_most digest (suc n) (e ∷ entry) (b ∷ blocks) of = omega (arith, at_most digest n entry blocks of.1)
+
+-- ---- what becomes of an entry becomes of its text
+
+as_text : (digest : List Reply → Sum) (text : List ℕ) (entry : List TheBlock) (old : Ordered) (told : EntryOutcome)
+    (new : Ordered) → entry_in text ≡ Ok entry → IsEntryApplied digest entry old told new →
+    IsApplied digest text old told new
+as_text digest text entry old (Applied told) new read is = record {
+  blocks = is.blocks;
+  of = record { entry = entry; read = read; each = is.of };
+  comes = is.comes;
+  leads = is.leads;
+}
+as_text digest text entry old Nothing new read is = (no_entry digest text entry read is.0, is.1)
+
+pub applied_as_text : {E : Type 0} (digest : List Reply → Sum) (text : List ℕ) (items entry : List EntryBlock)
+    (old new : Ordered) (result : Result EntryOutcome E) → entry ≡ items → entry_in text ≡ Ok (the_blocks items) →
+    IfOk result (λ told. IsEntryApplied digest (the_blocks entry) old told new) →
+    IfOk result (λ told. IsApplied digest text old told new)
+applied_as_text digest text items entry old new (Ok told) same read is =
+    as_text digest text (the_blocks entry) old told new (read ∙ ap (λ es. Ok (the_blocks es)) (sym same)) is
+applied_as_text digest text items entry old new (Err e) same read is = tt
+
+pub faulty : (digest : List Reply → Sum) (text : List ℕ) (e : ReadError) (fault : Fault) → e ≡ NoEntry fault →
+    ReadFails e (entry_in text) → IsNoEntry digest text
+faulty digest text e fault is fails blocks of =
+    absurd (ok_is_no_err (sym of.read ∙ subst (λ e. ReadFails e (entry_in text)) is fails))

@@ -25,15 +25,23 @@ pub record IsEntryOf (digest : List Reply → Sum) (text : List ℕ) (blocks : L
 abbrev pub IsNoEntry : (List Reply → Sum) → List ℕ → Type 0
 IsNoEntry digest text = (blocks : List Block) → IsEntryOf digest text blocks → ⊥
 
--- the entry's blocks come to what they come to in their turn, and lead where they lead
-pub record AreApplied (digest : List Reply → Sum) (text : List ℕ) (old : Ordered) (told : List Verdict) (new : Ordered)
-    : Type 0 where
+-- the blocks that they are come to what they come to in their turn, and lead where they lead
+pub record AreApplied (AreOf : List Block → Type 0) (digest : List Reply → Sum) (old : Ordered) (told : List Verdict)
+    (new : Ordered) : Type 0 where
   pub blocks : List Block
-  pub of : IsEntryOf digest text blocks
+  pub of : AreOf blocks
   pub comes : told ≡ outcomes digest blocks old
   pub leads : new ≡ after_blocks digest blocks old
 
+-- what became of an entry: a line of one of its blocks may be none of a block's
+abbrev pub IsEntryApplied : (List Reply → Sum) → List TheBlock → Ordered → EntryOutcome → Ordered → Type 0
+IsEntryApplied digest entry old (Applied told) new =
+    AreApplied (AreBlocksOf digest entry) digest old (verdicts told.items) new
+IsEntryApplied digest entry old Nothing new =
+    ((blocks : List Block) → AreBlocksOf digest entry blocks → ⊥) × (new ≡ old)
+
 -- what became of a text
 abbrev pub IsApplied : (List Reply → Sum) → List ℕ → Ordered → EntryOutcome → Ordered → Type 0
-IsApplied digest text old (Applied told) new = AreApplied digest text old (verdicts told.items) new
+IsApplied digest text old (Applied told) new =
+    AreApplied (IsEntryOf digest text) digest old (verdicts told.items) new
 IsApplied digest text old Nothing new = IsNoEntry digest text × (new ≡ old)

@@ -1,3 +1,4 @@
 pub mod Lines
 pub mod Answers
 pub mod Blocks
+pub mod Bounds

@@ -11,8 +11,8 @@ use Rattle.am_line_dialogue.specs.declared.lines.ParsedLine.TheVariants.{Asked}
 use Rattle.am_replica.specs.Bodies.{kept_ops, own_behind, kept_behind}
 use Rattle.am_replica.proofs.Kept.{kept_twice}
 use Rattle.am_replica_blocks.specs.Blocks.{BlockLine, line_request, waiting, asked_ops}
-use Rattle.am_replica_lines.specs.Lines.{said, at_work}
-use Rattle.am_replica_lines.proofs.Lines.{ops_of-push, waiting-push}
+use Rattle.am_replica_lines.specs.Lines.{at_work}
+use Rattle.am_replica_lines.proofs.Lines.{waiting-push}
 use Rattle.am_replica_trials.specs.Trials.{TrialState, HasLines, has_room}
 
 -- ---- the bytes with one line more

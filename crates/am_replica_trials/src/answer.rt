@@ -12,8 +12,10 @@ pub enum TrialAnswer {
     Stage(Response),
     /// An earlier answer no longer comes. Each further line is answered so.
     Conflict,
-    /// The block would be too large. The line did nothing.
+    /// The block would be too large, or its answers might be. The line did nothing.
     Limit,
+    /// What is wrong with the line, which did nothing.
+    Faulty(Response),
     /// It is none of a transaction's lines, and did nothing: the session answers it.
     Other,
 }

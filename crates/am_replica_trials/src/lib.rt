@@ -4,6 +4,7 @@
 //!   kept as the bytes of its block, which a replica reads as the same operations ([`LineTransaction::into_block`]).
 //! - [`TrialAnswer`]: what a line is answered.
 //! - [`blocks_stand_where_trials_do`]: the block commits where all answers come again.
+//! - [`answers_are_no_longer`]: what a line needs of the room for answers.
 #![tactic(auto)]
 
 mod answer;
@@ -11,5 +12,5 @@ mod laws;
 mod transaction;
 
 pub use answer::TrialAnswer;
-pub use laws::blocks_stand_where_trials_do;
+pub use laws::{answers_are_no_longer, blocks_stand_where_trials_do};
 pub use transaction::LineTransaction;

@@ -1,18 +1,19 @@
 //! Transactions over texts.
 
-ghost use Rattle.std.specs.Prelude.{◌≡◌, ◌+◌, ◌*◌, ◌<◌, ◌^◌, ◌++◌, ◌∷◌, [], List, Some, None, true, false, IfOk, OnOk};
-ghost use Rattle.std.specs.Prelude.{nat_le, length};
+ghost use Rattle.std.specs.Prelude.{◌≡◌, ◌+◌, ◌-◌, ◌*◌, ◌<◌, ◌^◌, ◌++◌, ◌∷◌, [], List, Some, None, true, false};
+ghost use Rattle.std.specs.Prelude.{IfOk, OnOk, nat_le, length};
 ghost use Rattle.am_line_source.specs.Lines.{HasNoLf, line_of};
 ghost use Rattle.am_line_dialogue.specs.ParsedLine.{parsed};
 ghost use Rattle.am_line_dialogue.specs.declared.lines.ParsedLine.TheVariants.{Asked};
 ghost use Rattle.am_replica_blocks.specs.Blocks.{BlockLine, waiting, asked_ops};
 ghost use Rattle.am_replica_lines.specs.Lines.{AsksOps, told_lines};
-ghost use Rattle.am_replica_trials.specs.Trials.{HasLines, IsLineAnswered, has_room};
+ghost use Rattle.am_replica_trials.specs.Trials.{HasLines, IsLineAnswered, has_room, has_answer_room};
+ghost use Rattle.am_replica_trials.specs.Trials.{longest_answer, first_trial};
 
 use crate::answer::TrialAnswer;
-use am_line_dialogue::{ParsedLine, Session};
+use am_line_dialogue::{ParsedLine, Response, Session};
 use am_line_text::LineFault;
-use am_line_wire::Request;
+use am_line_wire::{Request, reply_text};
 use am_record::{NoMemory, Op, Reply};
 use am_replica::{Digest, Machine, Transaction, TrialFault};
 use am_replica_entries::{Block, Told};
@@ -20,8 +21,14 @@ use am_replica_lines::{parse_cut, stage, take_along};
 use std::alloc::Global;
 use std::marker::Model;
 
-/// The most bytes of a block's lines, each counted with 100 more.
+/// The most bytes of a block's lines, each counted with 100 more, and of the answers to its operations.
 const MAX_LINES_LEN: usize = 64_000_000;
+
+const MAX_ANSWERS_LEN: usize = 64_000_000;
+// The most bytes of a row, and of any answer beside its rows.
+const MAX_ROW_LEN: usize = 98;
+
+const MAX_SHORT_LEN: usize = 110;
 
 /// A transaction: what it was told, the records that wait, and the lines that were answered.
 #[derive(Drop)]
@@ -30,6 +37,7 @@ pub struct LineTransaction {
     session: Session,
     lines: Vec<u8>,
     answered: u32,
+    answers_left: usize,
     is_over: bool,
 }
 
@@ -45,6 +53,7 @@ impl Model for LineTransaction {
       session = t.session;
       lines = t.lines.items;
       answered = t.answered;
+      answers_left = t.answers_left;
       is_over = t.is_over;
     } };
 }
@@ -55,7 +64,8 @@ impl LineTransaction {
     /// # Errors
     /// NoMemory, where memory was refused.
     pub fn new<D: Digest>(alloc: Global, digest: &D) -> Result<LineTransaction, NoMemory>
-        ensures { IfOk result (λ t. HasLines [] t) }
+        ensures exact { IfOk result (λ t. t ≡ first_trial D.digest_of) }
+        ensures begun { IfOk result (λ t. HasLines [] t) }
     {
         let transaction = Transaction::new(alloc, digest)?;
         let mut session = Session::new(alloc);
@@ -65,6 +75,7 @@ impl LineTransaction {
             session,
             lines: Vec::new(alloc),
             answered: 0,
+            answers_left: MAX_ANSWERS_LEN,
             is_over: false,
         })
     }
@@ -87,6 +98,8 @@ impl LineTransaction {
         ensures answered { (own : List BlockLine) → HasLines own self.old →
             IfOk result (λ answer.
             IsLineAnswered D.digest_of own self.old line.now (M.map machine.old) answer self.new) }
+        ensures over { (own : List BlockLine) → self.old.is_over ≡ true → IfOk result (λ answer.
+            IsLineAnswered D.digest_of own self.old line.now (M.map machine.old) answer self.new) }
     {
         match parse_cut(alloc, line) {
             ParsedLine::Asked(Request::Do(op)) => {
@@ -94,6 +107,9 @@ impl LineTransaction {
                     return Ok(TrialAnswer::Conflict);
                 }
                 if !self.has_room(line) {
+                    return Ok(TrialAnswer::Limit);
+                }
+                if !self.has_answer_room(&op) {
                     return Ok(TrialAnswer::Limit);
                 }
                 self.operation(alloc, machine, digest, line, op)
@@ -106,11 +122,13 @@ impl LineTransaction {
                     return Ok(TrialAnswer::Limit);
                 }
                 let response = stage(&mut self.session, records)?;
-                self.keep(line)?;
+                self.keep(line, 0)?;
                 Ok(TrialAnswer::Stage(response))
             }
             ParsedLine::Faulty(LineFault::NoMemory) => Err(NoMemory),
-            _ => Ok(TrialAnswer::Other),
+            ParsedLine::Faulty(fault) => Ok(TrialAnswer::Faulty(Response::Faulty(fault))),
+            ParsedLine::TooLong => Ok(TrialAnswer::Faulty(Response::TooLong)),
+            ParsedLine::Asked(_) => Ok(TrialAnswer::Other),
         }
     }
 
@@ -133,6 +151,7 @@ impl LineTransaction {
             session,
             lines,
             answered,
+            answers_left: _,
             is_over: _,
         } = self;
         drop(session);
@@ -156,7 +175,7 @@ impl LineTransaction {
         ensures idle { OnOk result (M.idle machine.new) }
         ensures same { OnOk result (M.map machine.new ≡ M.map machine.old) }
         ensures answered { (own : List BlockLine) → HasLines own self.old →
-            has_room self.old line.now ≡ true →
+            has_room self.old line.now ≡ true → has_answer_room self.old op ≡ true →
             parsed (line_of line.now) ≡ Asked (Request.Do op) →
             IfOk result (λ answer.
             IsLineAnswered D.digest_of own self.old line.now (M.map machine.old) answer self.new) }
@@ -173,7 +192,8 @@ impl LineTransaction {
                 let Some(reply) = told.pop() else {
                     return Err(NoMemory);
                 };
-                self.keep(line)?;
+                let text = reply_text(alloc, &reply)?;
+                self.keep(line, text.as_slice().len())?;
                 Ok(TrialAnswer::Reply(reply))
             }
         }
@@ -188,19 +208,43 @@ impl LineTransaction {
         bytes.saturating_add(counted) <= MAX_LINES_LEN
     }
 
-    // Keeps a line that was answered.
-    fn keep(&mut self, line: &[u8]) -> Result<(), NoMemory>
+    // Whether its answers have room for any to the operation.
+    fn has_answer_room(&self, op: &Op) -> bool
+        ensures { result ≡ has_answer_room self.now op.now }
+    {
+        longest_answer(op) <= self.answers_left
+    }
+
+    // Keeps a line that was answered, by an answer of so many bytes that count.
+    fn keep(&mut self, line: &[u8], answer_len: usize) -> Result<(), NoMemory>
         requires { self.old.answered < 2 ^ 31 }
         ensures lines { OnOk result (self.new.lines ≡ self.old.lines ++ (line.now ++ 10 ∷ [])) }
         ensures answered { OnOk result (self.new.answered ≡ self.old.answered + 1) }
         ensures transaction { self.new.transaction ≡ self.old.transaction }
         ensures session { self.new.session ≡ self.old.session }
+        ensures answers_left { OnOk result (self.new.answers_left ≡ self.old.answers_left - answer_len) }
         ensures over { self.new.is_over ≡ self.old.is_over }
     {
         self.lines.extend_from_slice(line)?;
         self.lines.push(b'\n')?;
         self.answered += 1;
+        self.answers_left = self.answers_left.saturating_sub(answer_len);
         Ok(())
+    }
+}
+
+// Bytes that no answer to the operation goes beyond.
+fn longest_answer(op: &Op) -> usize
+    ensures { result ≡ longest_answer op.now }
+{
+    if !op.is_bounded() {
+        return MAX_SHORT_LEN;
+    }
+    match op {
+        Op::Scan(_, most) | Op::ScanBack(_, most) => {
+            MAX_SHORT_LEN + MAX_ROW_LEN * (*most as usize)
+        }
+        _ => MAX_SHORT_LEN,
     }
 }
 

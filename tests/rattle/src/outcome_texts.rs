@@ -38,11 +38,13 @@ fn a_client_is_told_what_it_was_not_told_before(rt: HostRuntime) -> Result<(), F
         (3, b"VAL 2\nCOMMITTED 7\n"),
         (4, b"COMMITTED 7\n"),
     ];
+    // Each line that has no answer yet has one, and so has COMMIT.
+    let conflicts = b"ERR CONFLICT\n".repeat(alloc, 5)?;
     for (told, text) in ends {
         let block = block(alloc, told)?;
         assert_eq!(rt; outcome_text(alloc, &block, &outcome)?.as_slice(), text);
         let fails = outcome_text(alloc, &block, &Outcome::Conflict)?;
-        assert_eq!(rt; fails.as_slice(), b"ERR CONFLICT\n".as_slice());
+        assert_eq!(rt; fails.as_slice(), &conflicts[13 * (told as usize)..]);
     }
     Ok(())
 }

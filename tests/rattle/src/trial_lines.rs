@@ -1,6 +1,7 @@
 //! Transactions of clients, line by line, and the blocks that they become.
 
 use am_line_dialogue::Response;
+use am_line_text::LineFault;
 use am_record::{HashKey, Reply, Value};
 use am_replica::{Outcome, Replica};
 use am_replica_digest::AnswerDigest;
@@ -45,6 +46,8 @@ fn answer(
         TrialAnswer::Stage(_) => "not staged",
         TrialAnswer::Conflict => "conflict",
         TrialAnswer::Limit => "limit",
+        TrialAnswer::Faulty(Response::Faulty(LineFault::Syntax)) => "no line",
+        TrialAnswer::Faulty(_) => "faulty",
         TrialAnswer::Other => "other",
     })
 }
@@ -63,12 +66,13 @@ fn lines_are_tried_and_commit(rt: HostRuntime) -> Result<(), Fail> {
     let alloc = rt.alloc();
     let mut replica = replica(alloc)?;
     let mut first = LineTransaction::new(alloc, &replica.digest)?;
-    let lines: [(&[u8], &str); 9] = [
+    let lines: [(&[u8], &str); 10] = [
         (b"GET ant", "NONE"),
         (b"STAGE ant=2 bee=3", "staged"),
         // What isn't a transaction's, or no line at all, does nothing.
         (b"COMMIT", "other"),
-        (b"GET", "other"),
+        (b"GET", "no line"),
+        (b"SCAN z a 1", "faulty"),
         (b"SCAN a z 1001", "refused"),
         (b"GET ant\r", "NONE"),
         (b"LOAD cat=4", "OK"),
@@ -147,7 +151,7 @@ fn a_block_has_a_bound(rt: HostRuntime) -> Result<(), Fail> {
     }
     assert_eq!(rt;
         answer(alloc, &mut transaction, &mut replica, b"WHAT")?,
-        "other"
+        "no line"
     );
     Ok(())
 }

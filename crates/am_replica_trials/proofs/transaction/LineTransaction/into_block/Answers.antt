@@ -12,6 +12,7 @@ returns-clause-read c own has none =
       session = inside.session;
       lines = inside.lines.items;
       answered = inside.answered;
+      answers_left = inside.answers_left;
       is_over = inside.is_over;
     }) (told_lines c.in_ok-told.told) (subst (HasLines own) (sym c.self.view_is) has) none
     (told_first c.in_ok-told.told inside.answered inside.transaction.digest c.in_ok-told.ensures.none

@@ -1,4 +1,4 @@
-use Rattle.std.proofs.Common.{◌≡◌, true, [], ◌∷◌, ◌++◌, ◌+◌, sym, ap, subst, ◌∙◌}
+use Rattle.std.proofs.Common.{◌≡◌, true, ℕ, List, length, [], ◌∷◌, ◌++◌, ◌+◌, ◌-◌, sym, ap, subst, ◌∙◌}
 use Rattle.am_record.specs.declared.step.Op.{Op}
 use Rattle.am_replica.specs.Told.{still_stands, behind_lines, untold}
 use Rattle.am_replica_blocks.specs.Blocks.{waiting}
@@ -7,7 +7,7 @@ use Rattle.am_replica_trials.proofs.Answers.{replied}
 use Rattle.am_replica_trials.proofs.transaction.LineTransaction.operation.Goals as goal
 
 pub returns-clause-answered : goal.returns-clause-answered
-returns-clause-answered g c own has room asks =
+returns-clause-answered g c own has room answer_room asks =
     let digest = g.D.Digest.digest_of in
     let m = g.M.Machine.map c.args.machine.now in
     let old = c.args.self.now in
@@ -33,3 +33,7 @@ returns-clause-answered g c own has room asks =
     (kept.lines ∙ ap (λ (s : TrialState). s.lines ++ (c.args.line.now ++ 10 ∷ [])) is)
     (kept.answered ∙ ap (λ (s : TrialState). s.answered + 1) is)
     (kept.over ∙ ap (λ (s : TrialState). s.is_over) is)
+    answer_room
+    (kept.answers_left ∙ ap (λ (s : TrialState). s.answers_left - length c.as_slice.result.now) is
+    ∙ ap (λ (text : List ℕ). c.args.self.now.answers_left - length text)
+    (c.as_slice.ensures.value ∙ c.in_ok-text-in-Ok.ensures))

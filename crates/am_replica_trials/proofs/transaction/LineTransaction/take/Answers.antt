@@ -1,4 +1,4 @@
-use Rattle.std.proofs.Common.{[], ◌∷◌, ◌++◌, ◌+◌, sym, ap, subst, ◌∙◌}
+use Rattle.std.proofs.Common.{[], ◌∷◌, ◌++◌, ◌+◌, arith, sym, ap, subst, ◌∙◌}
 use Rattle.am_line_source.specs.Lines.{line_of}
 use Rattle.am_line_wire.specs.declared.request.Request.{Request}
 use Rattle.am_line_wire.specs.declared.request.Request.TheVariants.{Stage}
@@ -31,3 +31,4 @@ returns-in_ok-keep-in-Asked-Stage-clause-answered g c own has =
     (kept.lines ∙ ap (λ (s : TrialState). s.lines ++ (c.args.line.now ++ 10 ∷ [])) is)
     (kept.answered ∙ ap (λ (s : TrialState). s.answered + 1) is)
     (kept.over ∙ ap (λ (s : TrialState). s.is_over) is)
+    (let left = kept.answers_left in let same = ap (λ (s : TrialState). s.answers_left) is in omega (arith, left, same))

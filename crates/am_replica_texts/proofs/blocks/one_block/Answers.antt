@@ -1,7 +1,7 @@
 use Rattle.std.proofs.Common.{Err, ap, ◌∙◌}
 use Rattle.am_replica_entries.specs.Texts.{the_block}
 use Rattle.am_replica_texts.proofs.Entries.{other_line, left_waiting}
-use Rattle.am_replica_texts.proofs.texts.one_block.Goals as goal
+use Rattle.am_replica_texts.proofs.blocks.one_block.Goals as goal
 
 pub returns-in-Err-OtherLine-clause-none : goal.returns-in-Err-OtherLine-clause-none
 returns-in-Err-OtherLine-clause-none g c _ b is = other_line g.D.Digest.digest_of (the_block c.args.block.now)
