@@ -3,13 +3,9 @@
  * cleans some of what was deleted. Nothing else is done. */
 #define _DEFAULT_SOURCE /* getentropy */
 #include "tiuvrokk.h"
+#include "hash_words.h"
 
 #include <stdatomic.h>
-#include <time.h>
-#include <unistd.h>
-#ifdef __APPLE__
-#include <sys/random.h>
-#endif
 
 /* What the exports take: a handle that isn't null, texts as pointer and length, and where to write what they tell. */
 uint32_t tiuvrokk_open(tvk_store *store, uint64_t first, uint64_t second);
@@ -125,15 +121,6 @@ const char *tvk_name(tvk_status status) { return statuses[place_of(status)].name
 const char *tvk_text(tvk_status status) { return statuses[place_of(status)].text; }
 
 const char *tvk_version(void) { return TVK_VERSION; }
-
-/* The words of a hash key: the system's random bytes. Where it gives none, the clock and an address, which differ from run to
- * run, and which a stranger may guess: then keys can be chosen that take longer to look for. No memory is taken. */
-static void draw_words(uint64_t words[2]) {
-    if (getentropy(words, 2 * sizeof *words)) {
-        words[0] = (uint64_t)time(NULL) * 0x9E3779B97F4A7C15;
-        words[1] = ((uint64_t)clock() ^ (uint64_t)(uintptr_t)words) * 0xBF58476D1CE4E5B9;
-    }
-}
 
 tvk_status tvk_open(tvk_store *store) {
     uint64_t words[2];

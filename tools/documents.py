@@ -128,14 +128,16 @@ def faults_of_statuses() -> Iterator[str]:
     """The statuses for C, as the header, am_c_steps and Python number them."""
     header = dict(re.findall(r"\bTVK_([A-Z_]+) = (\d+)[,\n ]", text_of("c/tiuvrokk.h").partition("} tvk_status;")[0]))
     names = re.findall(r'"TVK_([A-Z_]+)"|"(\?)"', text_of("c/tiuvrokk.c"))
+    # (the header of replicas has one more)
+    every = {**header, **dict(re.findall(r"\bTVK_([A-Z_]+) = (\d+) ", text_of("c/tiuvrokk_replica.h")))}
     for number, (name, _) in enumerate(names):
         if name and header.get(name) != str(number):
             yield f"c/tiuvrokk.c: the name of status {number} is {name}, and not the header's"
     for name, number in re.findall(r"Status::(\w+) => (\d+),", text_of("crates/am_c_steps/src/status.rt")):
         upper = "OK" if name == "Fine" else re.sub(r"(?<!^)([A-Z])", r"_\1", name).upper()
         # (a seat alone is full, and C has none)
-        if header.get(upper, number if name == "SeatFull" else None) != number:
-            yield f"crates/am_c_steps/src/status.rt: {name} is {number}, and {header.get(upper)} in the header"
+        if every.get(upper, number if name == "SeatFull" else None) != number:
+            yield f"crates/am_c_steps/src/status.rt: {name} is {number}, and {every.get(upper)} in the header"
     python = dict(re.findall(r"(?m)^    ([A-Z_]+) = (\d+)$", text_of("python/tiuvrokk/errors.py")))
     for name in sorted({*header, *python}):
         if header.get(name) != python.get(name):

@@ -36,6 +36,7 @@ status_code is.BadRange = 21
 status_code is.BadMode = 22
 status_code is.Twice = 24
 status_code is.BadLine = 25
+status_code is.NoEntry = 26
 
 abbrev pub refusal_status : Refusal → Status
 refusal_status NoSuchTx = is.NoTx

@@ -36,6 +36,8 @@ pub enum Status {
     Twice,
     /// A line of a text has no TAB.
     BadLine,
+    /// A text is no entry of a replica's log.
+    NoEntry,
 }
 
 impl Status {
@@ -70,6 +72,7 @@ impl Status {
             Status::BadMode => 22,
             Status::Twice => 24,
             Status::BadLine => 25,
+            Status::NoEntry => 26,
         }
     }
 }

@@ -12,6 +12,7 @@ mod calls;
 mod cleaning;
 mod commands;
 mod counters;
+mod desks;
 mod directory;
 mod entries;
 mod failing;

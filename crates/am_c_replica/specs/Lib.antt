@@ -1,0 +1,3 @@
+pub mod ReplicaCalls
+pub mod Rows
+pub mod TransactionCalls
