@@ -20,7 +20,8 @@
  * `length` says how many bytes it has, and tvk_replica_answer copies them.
  *
  * MEMORY that is refused ends a replica: it may differ from the others by then. The call that was refused answers TVK_NO_MEMORY,
- * and so does each later one until tvk_replica_close.
+ * and so does each later one until tvk_replica_close; a transaction that was passed to such a call is gone. tvk_replica_begin alone
+ * may be called again.
  *
  * THREADS, BAD USE and the first of several faults are as tiuvrokk.h has them: TVK_NO_STORE for a handle that is NULL or has no
  * replica, then TVK_NO_TX for one that is NULL or has no transaction, then TVK_NULL, then what the call itself finds. */

@@ -1,21 +1,33 @@
 #!/usr/bin/env python3
 """The proved rules of replicas as a library: worked and bad calls of tiuvrokk_replica.h from C, with each allocation refused in turn;
-then random transactions of several sessions, one of them as texts of entries that two replicas take, against what `amserve alone`
-answers to the same lines."""
+then random transactions of three sessions, tried and taken as entries by two replicas, against what `amserve alone` answers to
+the same lines; and random trials and entries against what `amreplica` makes of them, whose own code keeps to the same rules."""
 
+import asyncio
 import ctypes
 import os
 import random
 import struct
 import subprocess
+import sys
 import tempfile
-from typing import Any, List, NamedTuple, Optional, Tuple
+from typing import Any, Dict, List, NamedTuple, Optional, Tuple
 
 from support import AMSERVE, LIMIT, TOP, fail, wanted
 
+sys.path.insert(0, f"{TOP}/python")
+
+from tiuvrokk_replica.entries import Block, entry_of, text_of  # noqa: E402
+from tiuvrokk_replica.etcd import Etcd  # noqa: E402
+from tiuvrokk_replica.lines import is_sure  # noqa: E402
+from tiuvrokk_replica.log import Log  # noqa: E402
+from tiuvrokk_replica.replica import Outcome, Replica, Waiting  # noqa: E402
+from tiuvrokk_replica.store import Store as Program  # noqa: E402
+from tiuvrokk_replica.transaction import Transaction  # noqa: E402
+
 CC = os.environ.get("CC", "cc")
-# Random steps.
-STEPS, SEED = 6000, 7
+# Random steps, and entries.
+STEPS, ENTRIES, SEED = 6000, 400, 7
 CALLS = """\
 GET ant: NONE
 SET ant 6: OK
@@ -257,13 +269,94 @@ def waiting(own: Open) -> bool:
     return waits
 
 
+class Given(NamedTuple):
+    """An entry, as the log gives it."""
+
+    name: str
+    entry: bytes
+
+    def text(self) -> bytes:
+        return self.entry
+
+
+class Both:
+    """The code that `amreplica` runs, and the proved one."""
+
+    def __init__(self, calls: Any, rng: random.Random) -> None:
+        self.library, self.rng = Library(calls), rng
+        self.replica = Replica(Log(Etcd([]), "none"), Program([AMSERVE, "alone"]), 0)
+        self.entries = self.blocks = 0
+        self.ends: Dict[bytes, int] = {b"COMMITTED": 0, b"ERR CONFLICT": 0}
+
+    def transaction(self) -> Block:
+        """A block of lines that were tried at the state of now, by both."""
+        own, handle = Transaction(), self.library.begin()
+        for _ in range(self.rng.randrange(1, 5)):
+            line = drawn(self.rng)
+            if is_sure(line) and not line.startswith(b"STAGE "):
+                own.add(line)
+                wanted(f"the answer to {line!r}", self.library.try_line(handle, line)[:-1], *own.trial(self.replica.store, 0))
+        told = own.block()
+        # (refused lines stand in its block alone, and are no part of the digest)
+        block = self.library.block(handle)
+        if told.told:
+            wanted("a digest", block[-32:], told.digest)
+        self.replica.store.end_trial()
+        return told
+
+    def take(self, blocks: List[Block]) -> None:
+        """An entry of these blocks."""
+        self.entries += 1
+        self.blocks += len(blocks)
+        name, found = f"none-{self.entries}", []  # type: Tuple[str, List[Outcome]]
+        self.replica.on_way[name] = [Waiting(blocks, found.extend)]
+        self.replica.apply_entry(Given(name, entry_of(blocks)))  # type: ignore[arg-type]
+        self.replica.store.flush()
+        while self.replica.store.awaited:
+            self.replica.store.read()
+        right = self.library.take(text_of(blocks))
+        wanted(f"what the blocks of entry {self.entries} came to", b"".join(found), right)
+        for outcome in found:
+            end = outcome.splitlines()[-1]
+            self.ends[end.rpartition(b" ")[0] if end.startswith(b"COMMITTED ") else end] += 1
+
+
+async def running_code(calls: Any) -> str:
+    """Trials and entries by the code that `amreplica` runs, and by the library."""
+    rng = random.Random(SEED)
+    both = Both(calls, rng)
+    waiting: List[Block] = []
+    for _ in range(ENTRIES):
+        waiting += [both.transaction() for _ in range(rng.randrange(3))]
+        rng.shuffle(waiting)
+        blocks, waiting = waiting[:2], waiting[2:]
+        for at, block in enumerate(blocks):
+            rest = [line for line in (drawn(rng) for _ in range(rng.randrange(3))) if is_sure(line) and not line.startswith(b"STAGE ")]
+            digest = bytes(32) if block.told and rng.random() < 0.1 else block.digest
+            blocks[at] = Block(block.body + b"".join(line + b"\n" for line in rest), block.told, digest)
+        blocks += [Block(b"SET k%d %d\nGET k1\n" % (rng.randrange(12), rng.randrange(9))) for _ in range(rng.choice((0, 1, 40)))]
+        rng.shuffle(blocks)
+        both.take(blocks)
+    look = both.library.begin()
+    found = both.replica.store.free([b"BEGIN", b"SCAN a z 1000", b"ABORT"])[1]
+    wanted("all records", both.library.try_line(look, b"SCAN a z 1000")[:-1], found)
+    both.library.end(look)
+    both.library.close()
+    both.replica.store.close()
+    if min(both.ends.values()) < 50:
+        fail(f"blocks came to {both.ends}")
+    return f"{both.blocks} blocks of {both.entries} entries come to the same by the code that runs"
+
+
 def main() -> None:
     with tempfile.TemporaryDirectory() as folder:
         installed = os.path.join(folder, "installed")
         # (which is proved first where that hasn't been done)
         subprocess.run([f"{TOP}/install-library", "--replica", installed], check=True)
         print(f"replica_library: {worked_calls(folder, installed)}")
-        print(f"replica_library: {random_transactions(ctypes.CDLL(f'{installed}/lib/libtiuvrokk_replica.so'))}")
+        calls = ctypes.CDLL(f"{installed}/lib/libtiuvrokk_replica.so")
+        print(f"replica_library: {random_transactions(calls)}")
+        print(f"replica_library: {asyncio.run(running_code(calls))}")
 
 
 if __name__ == "__main__":
