@@ -125,20 +125,22 @@ def load_one_by_one(store: tiuvrokk.Store, keys: List[bytes]) -> float:
     return time.process_time() - began
 
 
-def seconds_of_loads(keys: List[bytes]) -> float:
-    """The seconds of processor of such loads into a new store, the least of three tries."""
+def ratio_of_loads(keys: List[bytes], others: List[bytes]) -> float:
+    """How many times as long such loads of the keys into a new store take as those of the others, by seconds of processor: the
+    least of five tries of each, which are made in turn, since a machine's speed changes."""
     seconds = []
-    for _ in range(3):
-        with tiuvrokk.Store() as store:
-            seconds.append(load_one_by_one(store, keys))
-    return min(seconds)
+    for _ in range(5):
+        for these in (keys, others):
+            with tiuvrokk.Store() as store:
+                seconds.append(load_one_by_one(store, these))
+    return min(seconds[::2]) / min(seconds[1::2])
 
 
 def chosen_keys(rng: random.Random) -> None:
     """Keys that a stranger chose without the hash key take no longer, and are found, as are the absent ones not."""
     keys = keys_of_number(rng, rng.randrange(WORD), 21_000)
     chosen, absent = keys[:20_000], keys[20_000:]
-    assert seconds_of_loads(chosen) < 3 * seconds_of_loads([rng.randbytes(32) for _ in chosen])
+    assert ratio_of_loads(chosen, [rng.randbytes(32) for _ in chosen]) < 3
     with tiuvrokk.Store() as store:
         load_one_by_one(store, chosen)
         with store.transaction() as tx:
@@ -154,18 +156,19 @@ def chosen_keys(rng: random.Random) -> None:
 def many_loads(rng: random.Random) -> None:
     """Twice as many loads take no more than three times as long."""
     keys = [rng.randbytes(16) for _ in range(32_768)]
-    assert seconds_of_loads(keys) < 3 * seconds_of_loads(keys[:16_384])
+    assert ratio_of_loads(keys, keys[:16_384]) < 3
 
 
-def seconds_of_looks(store: tiuvrokk.Store, key: bytes) -> float:
-    """The seconds of processor of 2,000 looks for a key that has no record, the least of five tries."""
+def ratio_of_looks(store: tiuvrokk.Store, *keys: bytes) -> float:
+    """How many times as long 2,000 looks for the first key take as for the second, which have no records, by the same measure."""
     seconds = []
     for _ in range(5):
-        with store.transaction() as tx:
-            began = time.process_time()
-            assert all(tx.get(key) is None for _ in range(2000))
-            seconds.append(time.process_time() - began)
-    return min(seconds)
+        for key in keys:
+            with store.transaction() as tx:
+                began = time.process_time()
+                assert all(tx.get(key) is None for _ in range(2000))
+                seconds.append(time.process_time() - began)
+    return min(seconds[::2]) / min(seconds[1::2])
 
 
 def ghosts_in_many_runs() -> None:
@@ -178,7 +181,7 @@ def ghosts_in_many_runs() -> None:
             tx.abort()
         figures = store.figures()
         assert (figures.entries, figures.in_runs, figures.runs, figures.ghosts) == (8192, 8192, 8192, 8192)
-        assert seconds_of_looks(store, b"ant") < 3 * seconds_of_looks(store, b"bee")
+        assert ratio_of_looks(store, b"ant", b"bee") < 3
         with store.transaction() as tx:
             tx[b"ant"] = b"7"
             assert tx[b"ant"] == b"7"

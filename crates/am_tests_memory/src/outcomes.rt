@@ -39,5 +39,6 @@ pub(crate) fn outcomes_of_a_block(alloc: Global) -> Result<(), Fault> {
     };
     expect(text.as_slice() == b"OK\nOK\nCOMMITTED 7\n".as_slice())?;
     let text = outcome_text(alloc, &block, &Outcome::Conflict)?;
-    expect(text.as_slice() == b"ERR CONFLICT\n".as_slice())
+    let conflicts = b"ERR CONFLICT\nERR CONFLICT\nERR CONFLICT\n".as_slice();
+    expect(text.as_slice() == conflicts)
 }
