@@ -89,7 +89,8 @@ impl Transaction {
         ensures goes_on { OnOk result (self.new ≡ behind_lines D.digest_of self.old lines.now (M.map machine.old)) }
         ensures conflict { result ≡ Err TrialFault.Conflict → (self.old.is_over ≡ true)
             ⊎ (still_stands D.digest_of self.old lines.now (M.map machine.old) ≡ false) }
-        ensures over { result ≡ Err TrialFault.Conflict → self.new.is_over ≡ true }
+        ensures over { result ≡ Err TrialFault.Conflict →
+            self.new ≡ record { ops = self.old.ops; digest = self.old.digest; is_over = true } }
         ensures stays_over { self.old.is_over ≡ true → result ≡ Err TrialFault.Conflict }
     {
         if self.is_over {

@@ -138,13 +138,17 @@ pub record IsStage (own : List BlockLine) (s : TrialState) (line : List ℕ) (re
   pub left : s'.answers_left ≡ s.answers_left
   pub has : HasLines (own ++ Stages records ∷ []) s'
 
--- an earlier answer doesn't come again, now or once before
+-- an earlier answer doesn't come again, now or once before; what the transaction was told stays
 pub record IsConflict (digest : List Reply → Sum) (own : List BlockLine) (s : TrialState) (line : List ℕ) (m : PlainMap)
     (s' : TrialState) : Type 0 where
   pub asks : is_own (parsed (line_of line)) ≡ true
   pub why : (s.is_over ≡ true) ⊎ ((op : Op) × (parsed (line_of line) ≡ Asked (Do op)) × (has_room s line ≡ true)
       × (has_answer_room s op ≡ true) × (still_stands digest s.transaction (whole_op own op) m ≡ false))
   pub over : s'.is_over ≡ true
+  pub lines : s'.lines ≡ s.lines
+  pub answered : s'.answered ≡ s.answered
+  pub ops : s'.transaction.ops ≡ s.transaction.ops
+  pub sum : s'.transaction.digest ≡ s.transaction.digest
 
 -- the block would have too many bytes, or its answers might
 pub record IsBeyondLimit (s : TrialState) (line : List ℕ) (s' : TrialState) : Type 0 where
