@@ -20,8 +20,8 @@
  * `length` says how many bytes it has, and tvk_replica_answer copies them.
  *
  * MEMORY that is refused ends a replica: it may differ from the others by then. The call that was refused answers TVK_NO_MEMORY,
- * and so does each later one until tvk_replica_close; a transaction that was passed to such a call is gone. tvk_replica_begin alone
- * may be called again.
+ * and so does each later one until tvk_replica_close, but for tvk_replica_answer, which has nothing to copy then; a transaction that
+ * was passed to such a call is gone. tvk_replica_begin alone may be called again.
  *
  * THREADS, BAD USE and the first of several faults are as tiuvrokk.h has them: TVK_NO_STORE for a handle that is NULL or has no
  * replica, then TVK_NO_TX for one that is NULL or has no transaction, then TVK_NULL, then what the call itself finds. */
@@ -74,7 +74,8 @@ TVK_MUST_USE tvk_status tvk_replica_begin(tvk_transaction *transaction);
 TVK_MUST_USE tvk_status tvk_replica_try(tvk_replica *replica, tvk_transaction *transaction, const void *line, size_t line_length,
                                         uint64_t *length);
 
-/* Makes a transaction a block, and leaves its handle without one. The answer is the text of an entry that has it alone.
+/* Makes a transaction a block, and leaves its handle without one. The answer is the text of an entry that has it alone. Records that
+ * STAGE has wait are loaded or put before: else the text is TVK_NO_ENTRY to each replica, and no such text may go into the log.
  * TVK_NO_STORE, TVK_NO_TX, TVK_NO_MEMORY. */
 TVK_MUST_USE tvk_status tvk_replica_block(tvk_replica *replica, tvk_transaction *transaction, uint64_t *length);
 
