@@ -7,9 +7,12 @@
 uint32_t tiuvrokk_replica_open(tvk_replica *replica, uint64_t first, uint64_t second);
 uint32_t tiuvrokk_replica_close(tvk_replica *replica);
 uint32_t tiuvrokk_replica_take(tvk_replica *replica, const void *text, size_t text_length, uint64_t *told);
+uint32_t tiuvrokk_replica_apply(tvk_replica *replica, const void *text, size_t text_length);
 uint32_t tiuvrokk_replica_begin(tvk_transaction *transaction);
 uint32_t tiuvrokk_replica_try(tvk_replica *replica, tvk_transaction *transaction, const void *line, size_t line_length,
                               uint64_t *told);
+uint32_t tiuvrokk_replica_try_lines(tvk_replica *replica, tvk_transaction *transaction, const void *text, size_t text_length,
+                                    uint64_t *told);
 uint32_t tiuvrokk_replica_block(tvk_replica *replica, tvk_transaction *transaction, uint64_t *told);
 uint32_t tiuvrokk_replica_end(tvk_transaction *transaction);
 uint32_t tiuvrokk_replica_keep_up(tvk_replica *replica, const void *line, size_t line_length, uint64_t *told);
@@ -18,15 +21,29 @@ uint32_t tiuvrokk_replica_restore(tvk_replica *replica, uint64_t commits);
 uint32_t tiuvrokk_replica_commits(tvk_replica *replica, uint64_t *told);
 uint32_t tiuvrokk_replica_answer(tvk_replica *replica, uint64_t from, void *bytes, size_t room, uint64_t *told);
 
+uint32_t tiuvrokk_log_open(tvk_log *log);
+uint32_t tiuvrokk_log_open_behind(tvk_log *log, uint64_t since, uint64_t generation);
+uint32_t tiuvrokk_log_close(tvk_log *log);
+uint32_t tiuvrokk_log_put(tvk_log *log, uint64_t revision, uint64_t generation, const tvk_entry_name *name, uint64_t part,
+                          uint32_t is_new, const void *text, size_t text_length, uint64_t *told);
+uint32_t tiuvrokk_log_move(tvk_log *log, uint64_t revision, uint64_t since, uint64_t generation, uint64_t writer_high,
+                           uint64_t writer_low);
+uint32_t tiuvrokk_log_generation(tvk_log *log, uint64_t *told);
+uint32_t tiuvrokk_log_first_behind(tvk_log *log, uint64_t revision, uint64_t *told);
+uint32_t tiuvrokk_log_may_be_left(tvk_log *log, uint64_t revision, uint64_t *told);
+uint32_t tiuvrokk_log_text(tvk_log *log, uint64_t from, void *bytes, size_t room, uint64_t *told);
+
 /* What a text of no bytes points to. */
 static const char no_bytes[1];
 
 /* Tests a handle, and lets the length go nowhere where it isn't wanted. */
-#define BEGIN                                    \
+#define BEGIN_AT(handle)                         \
     uint64_t unwanted;                           \
     if (!length) length = &unwanted;             \
     *length = 0;                                 \
-    if (!replica || !replica->at) return TVK_NO_STORE
+    if (!(handle) || !(handle)->at) return TVK_NO_STORE
+
+#define BEGIN BEGIN_AT(replica)
 
 #define TRANSACTION                              \
     if (!transaction || !transaction->at) return TVK_NO_TX
@@ -35,6 +52,13 @@ static const char no_bytes[1];
     if (!(text)) {                               \
         if (text##_length) return TVK_NULL;      \
         text = no_bytes;                         \
+    }
+
+#define ROOM                                     \
+    char none[1];                                \
+    if (!bytes) {                                \
+        if (room) return TVK_NULL;               \
+        bytes = none;                            \
     }
 
 tvk_status tvk_replica_open(tvk_replica *replica) {
@@ -55,6 +79,12 @@ tvk_status tvk_replica_take(tvk_replica *replica, const void *text, size_t text_
     return tiuvrokk_replica_take(replica, text, text_length, length);
 }
 
+tvk_status tvk_replica_apply(tvk_replica *replica, const void *text, size_t text_length) {
+    if (!replica || !replica->at) return TVK_NO_STORE;
+    TEXT(text);
+    return tiuvrokk_replica_apply(replica, text, text_length);
+}
+
 tvk_status tvk_replica_begin(tvk_transaction *transaction) {
     if (!transaction) return TVK_NO_TX;
     return tiuvrokk_replica_begin(transaction);
@@ -66,6 +96,14 @@ tvk_status tvk_replica_try(tvk_replica *replica, tvk_transaction *transaction, c
     TRANSACTION;
     TEXT(line);
     return tiuvrokk_replica_try(replica, transaction, line, line_length, length);
+}
+
+tvk_status tvk_replica_try_lines(tvk_replica *replica, tvk_transaction *transaction, const void *text, size_t text_length,
+                                 uint64_t *length) {
+    BEGIN;
+    TRANSACTION;
+    TEXT(text);
+    return tiuvrokk_replica_try_lines(replica, transaction, text, text_length, length);
 }
 
 tvk_status tvk_replica_block(tvk_replica *replica, tvk_transaction *transaction, uint64_t *length) {
@@ -105,11 +143,62 @@ tvk_status tvk_replica_commits(tvk_replica *replica, uint64_t *commits) {
 
 tvk_status tvk_replica_answer(tvk_replica *replica, uint64_t from, void *bytes, size_t room, uint64_t *copied) {
     uint64_t *length = copied;
-    char none[1];
     BEGIN;
-    if (!bytes) {
-        if (room) return TVK_NULL;
-        bytes = none;
-    }
+    ROOM;
     return tiuvrokk_replica_answer(replica, from, bytes, room, length);
+}
+
+tvk_status tvk_log_open(tvk_log *log) {
+    if (!log) return TVK_NO_STORE;
+    return tiuvrokk_log_open(log);
+}
+
+tvk_status tvk_log_open_behind(tvk_log *log, uint64_t since, uint64_t generation) {
+    if (!log) return TVK_NO_STORE;
+    return tiuvrokk_log_open_behind(log, since, generation);
+}
+
+tvk_status tvk_log_close(tvk_log *log) {
+    if (!log) return TVK_NO_STORE;
+    return tiuvrokk_log_close(log);
+}
+
+tvk_status tvk_log_put(tvk_log *log, uint64_t revision, uint64_t generation, const tvk_entry_name *name, uint64_t part, int is_new,
+                       const void *text, size_t text_length, uint64_t *length) {
+    BEGIN_AT(log);
+    if (!name) return TVK_NULL;
+    TEXT(text);
+    return tiuvrokk_log_put(log, revision, generation, name, part, is_new != 0, text, text_length, length);
+}
+
+tvk_status tvk_log_move(tvk_log *log, uint64_t revision, uint64_t since, uint64_t generation, uint64_t writer_high,
+                        uint64_t writer_low) {
+    if (!log) return TVK_NO_STORE;
+    return tiuvrokk_log_move(log, revision, since, generation, writer_high, writer_low);
+}
+
+tvk_status tvk_log_generation(tvk_log *log, uint64_t *generation) {
+    uint64_t *length = generation;
+    BEGIN_AT(log);
+    return tiuvrokk_log_generation(log, length);
+}
+
+tvk_status tvk_log_first_behind(tvk_log *log, uint64_t revision, uint64_t *first) {
+    uint64_t *length = first;
+    BEGIN_AT(log);
+    return tiuvrokk_log_first_behind(log, revision, length);
+}
+
+tvk_status tvk_log_may_be_left(tvk_log *log, uint64_t revision, int *may) {
+    uint64_t told = 0;
+    tvk_status status = log ? tiuvrokk_log_may_be_left(log, revision, &told) : TVK_NO_STORE;
+    if (may) *may = told != 0;
+    return status;
+}
+
+tvk_status tvk_log_text(tvk_log *log, uint64_t from, void *bytes, size_t room, uint64_t *copied) {
+    uint64_t *length = copied;
+    BEGIN_AT(log);
+    ROOM;
+    return tiuvrokk_log_text(log, from, bytes, room, length);
 }

@@ -135,7 +135,7 @@ OPERATIONS = ("Replace", "Set", "Put", "ScanBack", "DeleteRange")
 def operation_files() -> Dict[str, List[str]]:
     """The files of each kind that name the operation which most files name, outside their comments. Worked traces and tests don't
     count, and neither does the log of replicas, whose puts are etcd's."""
-    worked = re.compile(r"crates/(am_tests_memory|am_replica_log/|am_law_serial/specs/Rows|am_law_serial/proofs/worked_)")
+    worked = re.compile(r"crates/(am_tests_memory|am_replica_log/|am_c_replica/src/logs|am_law_serial/specs/Rows|am_law_serial/proofs/worked_)")
     kinds = {"sources": "src", "specifications": "specs", "files of proofs": "proofs"}
     texts = {kind: [(os.path.relpath(it, TOP), text_of(it)) for it in sources(folder)] for kind, folder in kinds.items()}
     found = [

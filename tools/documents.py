@@ -128,8 +128,8 @@ def faults_of_statuses() -> Iterator[str]:
     """The statuses for C, as the header, am_c_steps and Python number them."""
     header = dict(re.findall(r"\bTVK_([A-Z_]+) = (\d+)[,\n ]", text_of("c/tiuvrokk.h").partition("} tvk_status;")[0]))
     names = re.findall(r'"TVK_([A-Z_]+)"|"(\?)"', text_of("c/tiuvrokk.c"))
-    # (the header of replicas has one more)
-    every = {**header, **dict(re.findall(r"\bTVK_([A-Z_]+) = (\d+) ", text_of("c/tiuvrokk_replica.h")))}
+    # (the header of replicas has some more)
+    every = {**header, **dict(re.findall(r"\bTVK_([A-Z_]+) = (\d+)[, ]", text_of("c/tiuvrokk_replica.h")))}
     for number, (name, _) in enumerate(names):
         if name and header.get(name) != str(number):
             yield f"c/tiuvrokk.c: the name of status {number} is {name}, and not the header's"

@@ -1,3 +1,4 @@
+pub mod LogCalls
 pub mod ReplicaCalls
 pub mod Rows
 pub mod TransactionCalls

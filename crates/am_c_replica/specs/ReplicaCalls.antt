@@ -5,7 +5,7 @@ use Rattle.am_c_steps.specs.declared.status.Status.TheVariants as is
 use Rattle.am_c_steps.specs.Statuses.{status_code}
 use Rattle.am_replica_desk.specs.Desks.{DeskState, first_desk, commits_at}
 use Rattle.am_replica_desk.specs.declared.fault.Fault.{Fault}
-use Rattle.am_replica_desk.specs.declared.fault.Fault.TheVariants.{Ended, NoEntry, OtherLine}
+use Rattle.am_replica_desk.specs.declared.fault.Fault.TheVariants.{Ended, NoEntry, OtherLine, Staged}
 
 -- the status of a call that ended so
 abbrev pub end_status : Result (Unit {0}) Fault → Status
@@ -13,6 +13,7 @@ end_status (Ok done) = is.Fine
 end_status (Err Ended) = is.NoMemory
 end_status (Err NoEntry) = is.NoEntry
 end_status (Err OtherLine) = is.BadLine
+end_status (Err Staged) = is.Staged
 
 -- whether there is a replica
 abbrev pub replica_status : Option DeskState → Status

@@ -1,9 +1,9 @@
 -- What a call does to a transaction and to the replica that it is tried on, by the contract of the desk's own call.
-use Rattle.std.specs.Prelude.{◌≡◌, ℕ, List, [], Option, None, Some, Result, Ok, Err}
+use Rattle.std.specs.Prelude.{◌≡◌, ℕ, [], Option, None, Some, Result, Ok, Err}
 use Rattle.am_c_steps.specs.declared.status.Status.{Status}
 use Rattle.am_c_steps.specs.declared.status.Status.TheVariants as is
 use Rattle.am_c_steps.specs.Statuses.{status_code}
-use Rattle.am_replica_desk.specs.Calls.{TakesTrialLine, PutsBlock}
+use Rattle.am_replica_desk.specs.Calls.{PutsBlock}
 use Rattle.am_replica_desk.specs.Desks.{DeskState, answers_digest}
 use Rattle.am_replica_desk.specs.declared.fault.Fault.{Fault}
 use Rattle.am_replica_desk.specs.declared.fault.Fault.TheVariants.{Ended}
@@ -32,23 +32,23 @@ going_on (Ok done) t = Some t
 going_on (Err Ended) t = None
 going_on (Err why) t = Some t
 
--- the line led both from there to here, and C is told how that ended
-pub record IsTriedSo (line : List ℕ) (d : DeskState) (t : TrialState) (told : ℕ) (held : Option DeskState)
-    (left : Option TrialState) : Type 0 where
+-- a line, or some, led both from there to here, and C is told how that ended
+pub record IsTriedSo (Takes : DeskState → TrialState → Result (Unit {0}) Fault → DeskState → TrialState → Type 0)
+    (d : DeskState) (t : TrialState) (told : ℕ) (held : Option DeskState) (left : Option TrialState) : Type 0 where
   pub ended : Result (Unit {0}) Fault
   pub desk : DeskState
   pub transaction : TrialState
-  pub takes : TakesTrialLine line d t ended desk transaction
+  pub takes : Takes d t ended desk transaction
   pub stands : held ≡ Some desk
   pub goes_on : left ≡ going_on ended transaction
   pub tells : told ≡ status_code (end_status ended)
 
--- without a replica, or without a transaction, nothing is done; else the line is tried
-abbrev pub TriesLine : List ℕ → Option DeskState → Option TrialState → ℕ → Option DeskState → Option TrialState →
-    Type 0
-TriesLine line None t told held left = (told ≡ status_code is.NoStore) × (held ≡ None) × (left ≡ t)
-TriesLine line (Some d) None told held left = (told ≡ status_code is.NoTx) × (held ≡ Some d) × (left ≡ None)
-TriesLine line (Some d) (Some t) told held left = IsTriedSo line d t told held left
+-- without a replica, or without a transaction, nothing is done; else a line, or some, are tried
+abbrev pub TriesLines : (DeskState → TrialState → Result (Unit {0}) Fault → DeskState → TrialState → Type 0) →
+    Option DeskState → Option TrialState → ℕ → Option DeskState → Option TrialState → Type 0
+TriesLines Takes None t told held left = (told ≡ status_code is.NoStore) × (held ≡ None) × (left ≡ t)
+TriesLines Takes (Some d) None told held left = (told ≡ status_code is.NoTx) × (held ≡ Some d) × (left ≡ None)
+TriesLines Takes (Some d) (Some t) told held left = IsTriedSo Takes d t told held left
 
 -- without a replica, or without a transaction, nothing is done; else the transaction is a block, and gone
 abbrev pub MakesBlock : Option DeskState → Option TrialState → ℕ → Option DeskState → Option TrialState → Type 0

@@ -18,6 +18,7 @@ pub(crate) fn end_status(ended: Result<(), Fault>) -> Status
         Err(Fault::Ended) => Status::NoMemory,
         Err(Fault::NoEntry) => Status::NoEntry,
         Err(Fault::OtherLine) => Status::BadLine,
+        Err(Fault::Staged) => Status::Staged,
     }
 }
 

@@ -1,7 +1,9 @@
-//! A replica for C (`c/tiuvrokk_replica.h`), and the transactions that are tried on it.
+//! A replica for C (`c/tiuvrokk_replica.h`), the transactions that are tried on it, and the log that it reads.
 #![tactic(auto)]
 
 mod ends;
+mod log_handle;
+mod logs;
 mod replica;
 mod replica_handle;
 mod transaction_handle;

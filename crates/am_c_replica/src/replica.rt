@@ -2,7 +2,7 @@
 
 ghost use Rattle.std.specs.Prelude.{◌≡◌, ◌++◌, None, IfOk, length, take, drop};
 ghost use Rattle.am_c_steps.specs.Statuses.{status_code};
-ghost use Rattle.am_replica_desk.specs.Calls.{TakesText, KeepsUp, Renews, Restores};
+ghost use Rattle.am_replica_desk.specs.Calls.{TakesText, AppliesText, KeepsUp, Renews, Restores};
 ghost use Rattle.am_replica_desk.specs.Desks.{first_desk};
 ghost use Rattle.am_c_replica.specs.ReplicaCalls.{OpensReplica, replica_status, DoesCall, answer_len, answer_part};
 ghost use Rattle.am_c_replica.specs.ReplicaCalls.{AreCommitsTold};
@@ -76,6 +76,23 @@ pub extern "C" fn tiuvrokk_replica_take(
     };
     let ended = desk.take_text(text);
     put_back(replica, desk, end_status(ended), told)
+}
+
+/// Takes the text of an entry in its turn, of whose blocks no client is to be told: there is no answer.
+#[unsafe(no_mangle)]
+pub extern "C" fn tiuvrokk_replica_apply(
+    alloc: Global,
+    replica: &mut ReplicaHandle,
+    text: &[u8],
+) -> u32
+    ensures { DoesCall (AppliesText text.now) replica.old.held result replica.new.held }
+{
+    let Some(mut desk) = replica.take(alloc) else {
+        return Status::NoStore.code();
+    };
+    let ended = desk.apply_text(text);
+    replica.put(desk);
+    end_status(ended).code()
 }
 
 /// Takes a line that merges or cleans: the answer is the store's, and its length goes out.
@@ -181,8 +198,8 @@ pub extern "C" fn tiuvrokk_replica_answer(
     Status::Fine.code()
 }
 
-// Copies the bytes from a place on, as many as fit. How many these are.
-fn copy_part(bytes: &[u8], from: u64, out: &mut [u8]) -> u64
+/// Copies the bytes from a place on, as many as fit. How many these are.
+pub(crate) fn copy_part(bytes: &[u8], from: u64, out: &mut [u8]) -> u64
     ensures len { result ≡ length (take (length out.old) (drop from bytes.now)) }
     ensures bytes { out.new ≡ take (length out.old) (drop from bytes.now) ++ drop result out.old }
 {

@@ -2,8 +2,9 @@
 
 ghost use Rattle.std.specs.Prelude.{◌≡◌, None, IfOk};
 ghost use Rattle.am_c_steps.specs.Statuses.{status_code};
+ghost use Rattle.am_replica_desk.specs.Calls.{TakesTrialLine, TakesTrialLines};
 ghost use Rattle.am_c_replica.specs.ReplicaCalls.{answer_len};
-ghost use Rattle.am_c_replica.specs.TransactionCalls.{BeginsTransaction, HasNoLines, transaction_status, TriesLine};
+ghost use Rattle.am_c_replica.specs.TransactionCalls.{BeginsTransaction, HasNoLines, transaction_status, TriesLines};
 ghost use Rattle.am_c_replica.specs.TransactionCalls.{MakesBlock, going_on};
 
 use crate::ends::{end_status, no_replica, put_back};
@@ -52,8 +53,8 @@ pub extern "C" fn tiuvrokk_replica_try(
     line: &[u8],
     told: &mut u64,
 ) -> u32
-    ensures call { TriesLine line.now replica.old.held transaction.old.held result replica.new.held
-        transaction.new.held }
+    ensures call { TriesLines (TakesTrialLine line.now) replica.old.held transaction.old.held result
+        replica.new.held transaction.new.held }
     ensures len { told.new ≡ answer_len replica.new.held }
 {
     let Some(mut desk) = replica.take(alloc) else {
@@ -63,6 +64,31 @@ pub extern "C" fn tiuvrokk_replica_try(
         return put_back(replica, desk, Status::NoTx, told);
     };
     let ended = desk.take_line(&mut taken, line);
+    keep(transaction, taken, ended);
+    put_back(replica, desk, end_status(ended), told)
+}
+
+/// Tries the lines of a text, one after another: the answer has a line for each, which is empty where the session
+/// answers it, and its length goes out. Where the replica ended, the transaction is gone.
+#[unsafe(no_mangle)]
+pub extern "C" fn tiuvrokk_replica_try_lines(
+    alloc: Global,
+    replica: &mut ReplicaHandle,
+    transaction: &mut TransactionHandle,
+    text: &[u8],
+    told: &mut u64,
+) -> u32
+    ensures call { TriesLines (TakesTrialLines text.now) replica.old.held transaction.old.held result
+        replica.new.held transaction.new.held }
+    ensures len { told.new ≡ answer_len replica.new.held }
+{
+    let Some(mut desk) = replica.take(alloc) else {
+        return no_replica(told);
+    };
+    let Some(mut taken) = transaction.take(alloc) else {
+        return put_back(replica, desk, Status::NoTx, told);
+    };
+    let ended = desk.take_lines(&mut taken, text);
     keep(transaction, taken, ended);
     put_back(replica, desk, end_status(ended), told)
 }

@@ -37,6 +37,9 @@ status_code is.BadMode = 22
 status_code is.Twice = 24
 status_code is.BadLine = 25
 status_code is.NoEntry = 26
+status_code is.Staged = 27
+status_code is.WentBack = 28
+status_code is.PartsMissing = 29
 
 abbrev pub refusal_status : Refusal → Status
 refusal_status NoSuchTx = is.NoTx

@@ -38,6 +38,12 @@ pub enum Status {
     BadLine,
     /// A text is no entry of a replica's log.
     NoEntry,
+    /// Records of a transaction wait for a load or a put.
+    Staged,
+    /// A floor of a replica's log doesn't follow the one that is known.
+    WentBack,
+    /// An entry of a replica's log counts, and not all of its pieces were told.
+    PartsMissing,
 }
 
 impl Status {
@@ -73,6 +79,9 @@ impl Status {
             Status::Twice => 24,
             Status::BadLine => 25,
             Status::NoEntry => 26,
+            Status::Staged => 27,
+            Status::WentBack => 28,
+            Status::PartsMissing => 29,
         }
     }
 }

@@ -38,3 +38,12 @@ kept_taken own (op ∷ ops) taken = kept_taken (own_behind own op) ops
 
 pub kept_twice : (ops : List Op) → kept_ops (kept_ops ops) ≡ kept_ops ops
 kept_twice ops = taken_are_kept [] (kept_ops ops) (kept_taken [] ops tt)
+
+pub kept_push : (own ops : List Op) (op : Op) → kept_behind own (ops ++ op ∷ []) ≡ own_behind (kept_behind own ops) op
+kept_push own [] op = refl
+kept_push own (o ∷ ops) op = kept_push (own_behind own o) ops op
+
+-- nor of them and one more that is kept
+pub kept_one_more : (own : List Op) (op : Op) → kept_ops own ≡ own → kept_ops (own_behind own op) ≡ own_behind own op
+kept_one_more own op kept = subst (λ os. kept_ops (own_behind os op) ≡ own_behind os op) kept
+    (subst (λ os. kept_ops os ≡ os) (kept_push [] own op) (kept_twice (own ++ op ∷ [])))

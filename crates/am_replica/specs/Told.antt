@@ -33,6 +33,14 @@ behind_lines digest t lines m = record {
   is_over = false;
 }
 
+-- A trial is open: the active transaction was answered these operations on this map, none of which is refused after
+-- those before it, and its digest has taken the answers.
+pub record IsTrialOpen (inside : List Op → PlainMap → Type 0) (holds : List Reply → Type 0) (ops : List Op)
+    (m : PlainMap) : Type 0 where
+  pub kept : kept_ops ops ≡ ops
+  pub active : inside ops m
+  pub told : holds (answers ops m)
+
 -- what the lines themselves are answered
 abbrev pub untold : TransactionState → List Op → PlainMap → List Reply
 untold t lines m = drop (length t.ops) (replies (t.ops ++ lines) m)

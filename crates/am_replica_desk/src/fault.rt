@@ -9,4 +9,6 @@ pub enum Fault {
     NoEntry,
     /// The line is none that the call is for. Nothing was done.
     OtherLine,
+    /// Records of the transaction wait for a load or a put. It is gone, and nothing else was done.
+    Staged,
 }

@@ -1,7 +1,7 @@
 -- A store with one transaction at a time, step by step.
 use Rattle.std.proofs.Common.{◌≡◌, ◌⊎◌, inl, inr, ℕ, ◌+◌, nat_le, length, List, [], ◌∷◌, ◌++◌, Bool, true, false, cond}
 use Rattle.std.proofs.Common.{not, ◌&&◌, ◌||◌, map, Option, Some, None, refl, sym, ap, ◌∙◌, subst, append_assoc}
-use Rattle.std.specs.Prelude.{MatchOption}
+use Rattle.std.specs.Prelude.{MatchOption, Result, Ok, Err, OnOk, OnErr}
 use Rattle.std.proofs.lemmas.Bool.{true≢false}
 use Rattle.std.proofs.Math.Bool.{and-false}
 use Rattle.std.proofs.lemmas.List.{append-nil}
@@ -11,6 +11,7 @@ use Rattle.am_record.specs.Plain.{PlainMap, fresh, answer, left, left_on, is_ord
 use Rattle.am_record.specs.Asks.{lock_of, locks_of}
 use Rattle.am_record.specs.Refusals.{is_bounded, may_make_run, is_one_too_many, lock_refusal}
 use Rattle.am_record.specs.Refusals.{or_else}
+use Rattle.am_record.specs.declared.memory.NoMemory.{NoMemory as OutOfMemory}
 use Rattle.am_record.specs.declared.step.Op.{Op}
 use Rattle.am_record.specs.declared.step.Step.{Step}
 use Rattle.am_record.specs.declared.step.Step.TheVariants.{Begin, Do, Commit, Abort}
@@ -27,7 +28,8 @@ use Rattle.am_law_serial.specs.Machine.{State, MayDo, is_full, due, next, overla
 use Rattle.am_law_effect.specs.Laws.{taken_back}
 use Rattle.am_law_effect.specs.Store.{Store, opened, MayReply, IsRunOf, after_step, after_all}
 use Rattle.am_law_sound.specs.Right.{IsSoundStore}
-use Rattle.am_law_sound.specs.StoreState.{Active, StoreState, is_in, in_table, MayAnswer, state_after, empty_state}
+use Rattle.am_law_sound.specs.StoreState.{Active, StoreState, is_in, in_table, without_tx, MayAnswer, state_after}
+use Rattle.am_law_sound.specs.StoreState.{empty_state}
 use Rattle.am_law_sound.specs.StateOf.{IsStateOf, active_of}
 use Rattle.am_store.specs.StoreSteps.{IsSoundAt, Extends}
 use Rattle.am_store.proofs.StoreSteps.{Lifts, Sounds}
@@ -37,8 +39,8 @@ use Rattle.am_line_dialogue.proofs.SaidByMap.{one_view}
 use Rattle.am_line_dialogue.proofs.SaidByMap.{next_did, next_committed, next_aborted, ops_did}
 use Rattle.am_replica.specs.Bodies.{refusal_behind, own_by, own_behind, kept_behind, kept_ops, reply_by, reply_behind}
 use Rattle.am_replica.specs.Bodies.{replies_behind, replies, leaves}
-use Rattle.am_replica_store.specs.Alone.{notes_of, committed_map, draft_map, IsIdle, IsFree, IsInside, IsAlone}
-use Rattle.am_replica_store.specs.Alone.{is_out_of_room, IsCommitted, IsAborted}
+use Rattle.am_replica_store.specs.Alone.{notes_of, committed_map, draft_map, IsIdle, rested, at_rest, IsFree, IsInside}
+use Rattle.am_replica_store.specs.Alone.{IsAlone, is_out_of_room, IsCommitted, IsAborted}
 
 -- ---- a trace with one more event
 
@@ -105,6 +107,10 @@ free_content sounds p free =
 -- the maps of an idle store are one
 pub idle_map : (p : StoreState) → IsIdle p → committed_map p ≡ draft_map p
 idle_map p idle = ap (λ xs. content (taken_back (notes_of xs) p.entries)) idle
+
+-- an idle store is at rest
+pub idle_rest : (p : StoreState) → IsIdle p → at_rest p ≡ p
+idle_rest p idle = ap (λ xs. rested xs p) idle
 
 -- what is due before the lock, of an active transaction
 abbrev early : Bool → Bool → Bool → Bool → Option Refusal
@@ -201,6 +207,23 @@ module _ (p : StoreState) (t : ℕ) (own : List Op) (m : PlainMap) (h : IsInside
       ∙ ap overlay_in (leads ∙ left_over)
       ∙ h.on
 
+  -- ---- where its abort leads
+
+  rest_is : at_rest p ≡ state_after p (Abort t) Aborted
+  rest_is = ap (λ xs. rested xs p) table_has ∙ ap (λ n. state_after p (Abort n) Aborted) h.newest
+
+  none_left : without_tx t p.active ≡ []
+  none_left =
+      ap (λ xs. without_tx t xs) table_has
+      ∙ ap (λ n. without_tx n (entry ∷ [])) (sym number_is)
+      ∙ ap (λ b. cond (not b) (entry ∷ []) []) (nat_eq_equiv.refl s.begun)
+
+  pub rest_map : committed_map (at_rest p) ≡ committed_map p
+  rest_map =
+      ap committed_map rest_is
+      ∙ ap (λ xs. content (taken_back (notes_of xs) (taken_back (in_table p.active t).notes p.entries))) none_left
+      ∙ ap (λ ns. content (taken_back ns p.entries)) own_notes
+
   -- ---- its end
 
   freed : (trace' : Trace) (p' : StoreState) → IsStateOf trace' p' → p'.most_runs ≡ 65535 →
@@ -237,6 +260,7 @@ module _ (p : StoreState) (t : ℕ) (own : List Op) (m : PlainMap) (h : IsInside
         free = free;
         idle = free_idle p' free;
         back = ap (λ (q : StoreState). q.entries) is ∙ ap (λ ns. taken_back ns p.entries) own_notes;
+        rests = is ∙ sym rest_is;
       }
   aborts_whole p' (Refused NoSuchTx) may is on = absurd (true≢false (sym is_open ∙ may))
   aborts_whole p' _ may is on = absurd may
@@ -345,6 +369,24 @@ opened_free p there is = record {
   none = refl;
 }
 
+-- ---- one operation more of the active transaction
+
+-- the transaction is the one that is active
+pub inside_active : (p : StoreState) (t n : ℕ) (own : List Op) (m : PlainMap) → IsAlone p (Some t) →
+    IsInside p n own m →
+    IsInside p t own m
+inside_active p t n own m h inside = subst (λ k. IsInside p k own m) (sym inside.newest ∙ h.2.newest) inside
+
+-- and it stays so, whatever is answered
+pub still_alone : (r : Result Reply OutOfMemory) (p p' : StoreState) (t : ℕ) (op : Op) →
+    ((own : List Op) (m : PlainMap) → IsInside p t own m → OnOk r (IsInside p' t (own_behind own op) m)) →
+    OnErr r (p' ≡ p) → IsAlone p (Some t) → IsAlone p' (Some t)
+still_alone (Ok reply) p p' t op goes same h = (own_behind h.0 op, h.1, goes h.0 h.1 h.2)
+still_alone (Err e) p p' t op goes same h = subst (λ q. IsAlone q (Some t)) (sym same) h
+
+pub inside_now : (p : StoreState) (t : ℕ) (own : List Op) (m : PlainMap) → IsInside p t own m → IsInside p p.begun own m
+inside_now p t own m inside = subst (λ k. IsInside p k own m) (sym inside.newest) inside
+
 -- ---- a whole list of operations
 
 -- so far all was answered as it is on the map, and the others are still to come
@@ -372,6 +414,11 @@ ran_one_more p p' t m told op rest asked reply ran is inside = record {
 pub ran_alone : (p : StoreState) (active : Option ℕ) (t : ℕ) (m : PlainMap) (told : List Reply) (rest asked : List Op) →
     active ≡ Some t → Ran p t m told rest asked → IsAlone p active
 ran_alone p active t m told rest asked is ran = subst (λ a. IsAlone p a) (sym is) (ran.own, m, ran.inside)
+
+pub ran_inside : (p : StoreState) (t : ℕ) (m : PlainMap) (told : List Reply) (asked : List Op) →
+    Ran p t m told [] asked → IsInside p p.begun (kept_ops asked) m
+ran_inside p t m told asked ran =
+    inside_now p t (kept_ops asked) m (subst (λ ops. IsInside p t ops m) ran.keeps ran.inside)
 
 pub ran_whole : Lifts → Sounds → (p : StoreState) (t : ℕ) (m : PlainMap) (told : List Reply) (asked : List Op) →
     Ran p t m told [] asked → (told ≡ replies asked m) × (draft_map p ≡ leaves asked m) × (committed_map p ≡ m)

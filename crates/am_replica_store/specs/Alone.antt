@@ -3,8 +3,9 @@ use Rattle.std.specs.Prelude.{◌≡◌, ℕ, List, [], ◌∷◌, Bool, true, f
 use Rattle.am_record.specs.Limits.{max_runs}
 use Rattle.am_record.specs.Plain.{PlainMap}
 use Rattle.am_record.specs.declared.step.Op.{Op}
+use Rattle.am_record.specs.declared.step.Step.TheVariants.{Abort}
 use Rattle.am_record.specs.declared.step.Reply.{Reply}
-use Rattle.am_record.specs.declared.step.Reply.TheVariants.{Refused}
+use Rattle.am_record.specs.declared.step.Reply.TheVariants.{Aborted, Refused}
 use Rattle.am_record.specs.declared.step.Refusal.TheVariants.{NoMemory, TooManyRuns}
 use Rattle.am_index.specs.Content.{content}
 use Rattle.am_store_undo.specs.declared.note.Note.{Note}
@@ -12,7 +13,7 @@ use Rattle.am_law_serial.specs.Trace.{Trace, Answered, ops_of}
 use Rattle.am_law_effect.specs.Laws.{taken_back}
 use Rattle.am_law_effect.specs.Store.{opened, after_all}
 use Rattle.am_law_sound.specs.StateOf.{IsStateOf}
-use Rattle.am_law_sound.specs.StoreState.{Active, StoreState}
+use Rattle.am_law_sound.specs.StoreState.{Active, StoreState, state_after}
 
 -- what the active transaction noted
 abbrev pub notes_of : List Active → List Note
@@ -30,6 +31,14 @@ draft_map p = content p.entries
 -- no transaction is active
 abbrev pub IsIdle : StoreState → Type 0
 IsIdle p = p.active ≡ []
+
+-- the store as an abort of the active transaction would leave it, which is the newest one
+abbrev pub rested : List Active → StoreState → StoreState
+rested [] p = p
+rested (x ∷ xs) p = state_after p (Abort p.begun) Aborted
+
+abbrev pub at_rest : StoreState → StoreState
+at_rest p = rested p.active p
 
 -- the store stands where some trace leaves it, and no transaction is active
 pub record IsFree (p : StoreState) : Type 0 where
@@ -71,3 +80,4 @@ pub record IsAborted (p p' : StoreState) : Type 0 where
   pub free : IsFree p'
   pub idle : IsIdle p'
   pub back : p'.entries ≡ taken_back (notes_of p.active) p.entries
+  pub rests : p' ≡ at_rest p

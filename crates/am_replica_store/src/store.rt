@@ -6,7 +6,8 @@ ghost use Rattle.am_record.specs.Plain.{PlainMap};
 ghost use Rattle.am_record.specs.declared.step.Op.{Op as TheOp};
 ghost use Rattle.am_replica.specs.Bodies.{reply_behind, own_behind};
 ghost use Rattle.am_law_sound.specs.StoreState.{empty_state, MayAnswer, state_after};
-ghost use Rattle.am_replica_store.specs.Alone.{committed_map, draft_map, IsIdle, IsAlone, IsInside, is_out_of_room};
+ghost use Rattle.am_replica_store.specs.Alone.{committed_map, draft_map, IsIdle, at_rest, IsAlone, IsInside};
+ghost use Rattle.am_replica_store.specs.Alone.{is_out_of_room};
 ghost use Rattle.am_replica_store.specs.Alone.{IsCommitted, IsAborted};
 
 use am_index_btree::BTree;
@@ -16,7 +17,7 @@ use am_store::Store;
 use std::alloc::Global;
 use std::marker::Model;
 
-/// A store with one transaction at a time, which is run whole, and then committed or aborted.
+/// A store with one transaction at a time, which is run, may go on, and is then committed or aborted.
 pub struct ReplicaStore {
     alloc: Global,
     store: Store<BTree>,
@@ -66,6 +67,18 @@ impl ReplicaStore {
         })
     }
 
+    /// Takes back what the transaction did that is active, where one is.
+    pub fn settle(&mut self)
+        ensures rests { self.new ≡ at_rest self.old }
+        ensures idle { IsIdle self.new }
+        ensures same { committed_map self.new ≡ committed_map self.old }
+    {
+        if let Some(tx) = self.active {
+            abort(&mut self.store, tx);
+            self.active = None;
+        }
+    }
+
     /// Merges what was read, at most so many entries, between two transactions. No answer changes by it.
     pub fn merge(&mut self, limit: u64) -> Reply
         requires { IsIdle self.old }
@@ -97,6 +110,8 @@ impl Machine for ReplicaStore {
 
     ghost idle = { IsIdle };
 
+    ghost inside = { λ p own m. IsInside p p.begun own m };
+
     fn run(&mut self, ops: &[Op]) -> Result<Vec<Reply>, NoMemory> {
         am_law_sound::steps_lift();
         let mut told = Vec::with_capacity(self.alloc, ops.len())?;
@@ -109,6 +124,14 @@ impl Machine for ReplicaStore {
         Ok(told)
     }
 
+    fn go_on(&mut self, op: &Op) -> Result<Reply, NoMemory> {
+        am_law_sound::steps_lift();
+        let Some(tx) = self.active else {
+            return Err(NoMemory);
+        };
+        answer(self.alloc, &mut self.store, tx, op)
+    }
+
     fn commit(&mut self) -> Result<(), NoMemory> {
         if let Some(tx) = self.active {
             commit(&mut self.store, tx);
@@ -118,10 +141,7 @@ impl Machine for ReplicaStore {
     }
 
     fn abort(&mut self) -> Result<(), NoMemory> {
-        if let Some(tx) = self.active {
-            abort(&mut self.store, tx);
-            self.active = None;
-        }
+        self.settle();
         Ok(())
     }
 }

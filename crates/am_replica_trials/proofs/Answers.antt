@@ -1,7 +1,6 @@
 -- What a line is answered.
 use Rattle.std.proofs.Common.{◌≡◌, ℕ, ◌+◌, ◌-◌, length, List, [], ◌∷◌, ◌++◌, true, false, sym, ap}
-use Rattle.std.proofs.Common.{◌∙◌, arith, append-nil}
-use Rattle.std.proofs.lemmas.List.{length-append, length-drop}
+use Rattle.std.proofs.Common.{◌∙◌, append-nil}
 use Rattle.am_record.specs.Plain.{PlainMap}
 use Rattle.am_record.specs.Records.{Records}
 use Rattle.am_record.specs.declared.step.Op.{Op}
@@ -13,10 +12,9 @@ use Rattle.am_line_dialogue.specs.Actions.{with_staged, staged_left, stage_respo
 use Rattle.am_line_dialogue.specs.ParsedLine.{parsed}
 use Rattle.am_line_dialogue.specs.declared.lines.ParsedLine.TheVariants.{Asked}
 use Rattle.am_line_dialogue.specs.declared.response.Response.{Response}
-use Rattle.am_replica.specs.Bodies.{kept_ops, replies}
+use Rattle.am_replica.specs.Bodies.{kept_ops}
 use Rattle.am_replica.specs.Ordered.{Sum}
 use Rattle.am_replica.specs.Told.{TransactionState, still_stands, behind_lines, untold}
-use Rattle.am_replica.proofs.Given.{replies_length}
 use Rattle.am_replica_blocks.specs.Blocks.{BlockLine, Asks, Stages, staged_by, waiting, asked_ops}
 use Rattle.am_replica_lines.specs.Lines.{at_work}
 use Rattle.am_replica_lines.proofs.Lines.{ops_of-push}
@@ -24,31 +22,16 @@ use Rattle.am_replica_trials.specs.Trials.{TrialState, HasLines, has_room, has_a
 use Rattle.am_replica_trials.specs.Trials.{IsOwnReply, IsStage}
 use Rattle.am_replica_trials.proofs.Lines.{has_more, kept_more}
 
-one_reply : (front replies : List Reply) (reply : Reply) → replies ≡ front ++ reply ∷ [] → length replies ≡ 1 →
-    replies ≡ reply ∷ []
-one_reply [] replies reply is one = is
-one_reply (r ∷ front) replies reply is one =
-    let long : length replies ≡ length (r ∷ front) + 1 = ap length is ∙ length-append (r ∷ front) (reply ∷ []) in
-    absurd (omega arith)
-
--- an operation has one reply
-one_untold : (t : TransactionState) (op : Op) (m : PlainMap) → length (untold t (op ∷ []) m) ≡ 1
-one_untold t op m =
-    let all : length (replies (t.ops ++ op ∷ []) m) ≡ length t.ops + 1 =
-    replies_length m [] (t.ops ++ op ∷ []) ∙ length-append t.ops (op ∷ []) in
-    let left = length-drop (length t.ops) (replies (t.ops ++ op ∷ []) m) in
-    omega arith
-
-module _ (digest : List Reply → Sum) (own : List BlockLine) (s s' : TrialState) (line : List ℕ) (has : HasLines own s)
-    (one : HasNoLf line) (room : has_room s line ≡ true) (on : s.is_over ≡ false) where
-  pub replied : (op : Op) (m : PlainMap) (front : List Reply) (reply : Reply) →
+module _ (own : List BlockLine) (s s' : TrialState) (line : List ℕ) (has : HasLines own s) (one : HasNoLf line)
+    (room : has_room s line ≡ true) (on : s.is_over ≡ false) where
+  pub replied : (digest : List Reply → Sum) (op : Op) (m : PlainMap) (reply : Reply) →
       parsed (line_of line) ≡ Asked (Do op) → still_stands digest s.transaction (whole_op own op) m ≡ true →
-      untold s.transaction (whole_op own op) m ≡ front ++ reply ∷ [] →
+      untold s.transaction (whole_op own op) m ≡ reply ∷ [] →
       s'.transaction ≡ behind_lines digest s.transaction (whole_op own op) m →
       s'.session ≡ at_work (staged_left (waiting [] own) op) → s'.lines ≡ s.lines ++ (line ++ 10 ∷ []) →
       s'.answered ≡ s.answered + 1 → s'.is_over ≡ s.is_over → has_answer_room s op ≡ true →
       s'.answers_left ≡ s.answers_left - length (text_of reply) → IsOwnReply digest own s line m reply s'
-  replied op m front reply asks stands told goes_on session lines answered over answer_room left =
+  replied digest op m reply asks stands told goes_on session lines answered over answer_room left =
       let whole = with_staged (waiting [] own) op in
       record {
         op = op;
@@ -57,8 +40,7 @@ module _ (digest : List Reply → Sum) (own : List BlockLine) (s s' : TrialState
         answer_room = answer_room;
         not_over = on;
         stands = stands;
-        tells = one_reply front (untold s.transaction (whole_op own op) m) reply told
-            (one_untold s.transaction whole m);
+        tells = told;
         goes_on = goes_on;
         left = left;
         has = has_more own s s' line (Asks op) has one room asks lines answered

@@ -1,10 +1,14 @@
 -- A transaction's block.
-use Rattle.std.proofs.Common.{◌≡◌, ◌<◌, ℕ, zero, suc, length, List, [], ◌++◌, take, Option, Some, None, arith, refl}
+use Rattle.std.proofs.Common.{◌≡◌, ◌<◌, ℕ, zero, suc, length, List, [], ◌∷◌, ◌++◌, take, Option, Some, None, false}
+use Rattle.std.proofs.Common.{arith, refl}
 use Rattle.std.proofs.Common.{sym, ap, ◌∙◌, append-nil}
+use Rattle.std.proofs.lemmas.Bool.{true≢false}
 use Rattle.std.proofs.lemmas.List.{take_all}
 use Rattle.am_record.specs.Plain.{PlainMap, answers}
+use Rattle.am_record.specs.Records.{Records}
 use Rattle.am_record.specs.declared.step.Op.{Op}
 use Rattle.am_record.specs.declared.step.Reply.{Reply}
+use Rattle.am_line_dialogue.specs.Actions.{some_wait}
 use Rattle.am_replica.specs.declared.block.Block.{Block}
 use Rattle.am_replica.specs.Bodies.{kept_ops, replies, given}
 use Rattle.am_replica.specs.Ordered.{Sum, same_sum, stands}
@@ -14,7 +18,7 @@ use Rattle.am_replica.proofs.Kept.{kept_twice}
 use Rattle.am_replica_blocks.specs.Blocks.{BlockLine, waiting, asked_ops}
 use Rattle.am_replica_entries.specs.declared.block.Told.{Told}
 use Rattle.am_replica_lines.specs.Lines.{AsksOps, told_lines}
-use Rattle.am_replica_trials.specs.Trials.{TrialState, HasLines}
+use Rattle.am_replica_trials.specs.Trials.{TrialState, HasLines, records_wait}
 
 -- all answers of operations, and of those that are kept
 answered : (m : PlainMap) (ops : List Op) → given (take (length ops) (replies ops m)) ≡ answers (kept_ops ops) m
@@ -38,6 +42,15 @@ stands_alike digest own s block m has ops told sum =
     ∙ ap (λ os. answers os m) (kept_twice all) in
     (λ i. same_sum (digest (block_answers i)) (sum i))
     ∙ (λ i. same_sum (digest (sym trial_answers i)) s.transaction.digest)
+
+-- where none waits in the session, none does behind the lines
+pub none_wait : (own : List BlockLine) (s : TrialState) → HasLines own s → records_wait s.session ≡ false →
+    waiting [] own ≡ []
+none_wait own s has none = by (waiting [] own) (ap records_wait (sym has.waits) ∙ none)
+  where
+    by : (staged : Records) → some_wait staged ≡ false → staged ≡ []
+    by [] is = refl
+    by (r ∷ rs) is = absurd (true≢false is)
 
 -- its lines, all of which were told
 pub asks_all : (own : List BlockLine) (s : TrialState) (first : ℕ) → HasLines own s → waiting [] own ≡ [] →

@@ -2,3 +2,4 @@ pub mod Lines
 pub mod Answers
 pub mod Blocks
 pub mod Bounds
+pub mod InOrder

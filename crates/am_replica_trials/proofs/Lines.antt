@@ -1,5 +1,5 @@
 -- One line more.
-use Rattle.std.proofs.Common.{◌≡◌, ◌≤◌, ℕ, ◌+◌, ◌*◌, length, List, [], ◌∷◌, ◌++◌, true, map, refl, sym, ap}
+use Rattle.std.proofs.Common.{◌≡◌, ◌≤◌, ℕ, ◌+◌, ◌*◌, length, List, [], ◌∷◌, ◌++◌, true, map, sym, ap}
 use Rattle.std.proofs.Common.{◌∙◌, arith, append_assoc}
 use Rattle.std.proofs.lemmas.Bool.{leb-true}
 use Rattle.std.proofs.lemmas.List.{map-append, length-append}
@@ -8,8 +8,8 @@ use Rattle.am_line_source.specs.Lines.{line_of, lines_of, HasNoLf}
 use Rattle.am_line_source.proofs.CutLines.{lines_of-ended}
 use Rattle.am_line_dialogue.specs.ParsedLine.{parsed}
 use Rattle.am_line_dialogue.specs.declared.lines.ParsedLine.TheVariants.{Asked}
-use Rattle.am_replica.specs.Bodies.{kept_ops, own_behind, kept_behind}
-use Rattle.am_replica.proofs.Kept.{kept_twice}
+use Rattle.am_replica.specs.Bodies.{kept_ops, own_behind}
+use Rattle.am_replica.proofs.Kept.{kept_twice, kept_push}
 use Rattle.am_replica_blocks.specs.Blocks.{BlockLine, line_request, waiting, asked_ops}
 use Rattle.am_replica_lines.specs.Lines.{at_work}
 use Rattle.am_replica_lines.proofs.Lines.{waiting-push}
@@ -33,10 +33,6 @@ lines_push text line one whole =
     whole (line ++ 10 ∷ []) ∙ ap (λ lines. lines_of text ++ lines) (lines_of-ended line [] one)
 
 -- ---- its operations
-
-kept_push : (own ops : List Op) (op : Op) → kept_behind own (ops ++ op ∷ []) ≡ own_behind (kept_behind own ops) op
-kept_push own [] op = refl
-kept_push own (o ∷ ops) op = kept_push (own_behind own o) ops op
 
 -- what was kept and one operation more is kept as all of them are
 pub kept_more : (ops : List Op) (op : Op) → kept_ops (kept_ops ops ++ op ∷ []) ≡ kept_ops (ops ++ op ∷ [])

@@ -1,6 +1,7 @@
 -- A transaction over texts, in trials.
-use Rattle.std.specs.Prelude.{◌≡◌, ◌⊎◌, ◌≤◌, ℕ, ◌+◌, ◌-◌, ◌*◌, nat_le, cond, length, List, [], ◌∷◌, ◌++◌}
-use Rattle.std.specs.Prelude.{Bool, true, false, Option, Some, None, refl}
+use Rattle.std.specs.Prelude.{◌≡◌, ◌⊎◌, ◌≤◌, ℕ, ◌+◌, ◌-◌, ◌*◌, nat_le, cond, length, take, List, [], ◌∷◌, ◌++◌}
+use Rattle.std.specs.Prelude.{is_some, ◌&&◌, Bool, true, false, Option, Some, None, refl}
+use Rattle.std.specs.List.{flat_map}
 use Rattle.std.specs.Coded.{Coded, code_by, coded×, coded_ℕ, coded_bool, coded_list}
 use Rattle.am_record.specs.Plain.{PlainMap}
 use Rattle.am_record.specs.Records.{Records}
@@ -11,7 +12,7 @@ use Rattle.am_record.specs.declared.step.Reply.{Reply}
 use Rattle.am_line_source.specs.Lines.{line_of, lines_of}
 use Rattle.am_line_wire.specs.Replies.{text_of}
 use Rattle.am_line_wire.specs.declared.request.Request.TheVariants.{Do, Stage}
-use Rattle.am_line_dialogue.specs.Actions.{with_staged, stage_response}
+use Rattle.am_line_dialogue.specs.Actions.{some_wait, with_staged, stage_response}
 use Rattle.am_line_dialogue.specs.ParsedLine.{parsed}
 use Rattle.am_line_dialogue.specs.Session.{SessionState, session_code}
 use Rattle.am_line_dialogue.specs.declared.lines.ParsedLine.{ParsedLine}
@@ -93,6 +94,30 @@ pub record HasLines (own : List BlockLine) (s : TrialState) : Type 0 where
   pub waits : s.session ≡ at_work (waiting [] own)
   pub few : length s.lines + 99 * s.answered ≤ max_lines_len
   pub over : s.is_over ≡ s.transaction.is_over
+
+-- whether records wait in a session's transaction
+abbrev pub records_wait : SessionState → Bool
+records_wait s = is_some s.active && some_wait s.staged
+
+-- the lines of a block that a text has
+abbrev pub line_in : ParsedLine → List BlockLine
+line_in (Asked (Do op)) = Asks op ∷ []
+line_in (Asked (Stage records)) = Stages records ∷ []
+line_in parsed = []
+
+-- the operations that a text's lines ask for, but for those that are refused
+abbrev pub kept_in : List ℕ → List Op
+kept_in text = kept_ops (asked_ops [] (flat_map line_in (said text)))
+
+-- the transaction's first bytes are the lines that asked for its operations: none that did comes after them
+pub record WereTried (tried : ℕ) (own : List BlockLine) (s : TrialState) : Type 0 where
+  pub has : HasLines own s
+  pub within : tried ≤ length s.lines
+  pub first : kept_in (take tried s.lines) ≡ s.transaction.ops
+
+-- so it is unless it is over
+abbrev pub IsInOrder : ℕ → TrialState → Type 0
+IsInOrder tried s = s.is_over ≡ false → (own : List BlockLine) × WereTried tried own s
 
 -- what a faulty line is answered
 abbrev pub fault_response : ParsedLine → Option Response

@@ -1,20 +1,22 @@
 //! Transactions over texts.
 
-ghost use Rattle.std.specs.Prelude.{◌≡◌, ◌+◌, ◌-◌, ◌*◌, ◌<◌, ◌^◌, ◌++◌, ◌∷◌, [], List, Some, None, true, false};
-ghost use Rattle.std.specs.Prelude.{IfOk, OnOk, nat_le, length};
+ghost use Rattle.std.specs.Prelude.{◌≡◌, ◌+◌, ◌-◌, ◌*◌, ◌<◌, ◌++◌, ◌∷◌, [], List, Some, None, true, false};
+ghost use Rattle.std.specs.Prelude.{IfOk, OnOk, IfSome, is_some, not, length};
 ghost use Rattle.am_line_source.specs.Lines.{HasNoLf, line_of};
 ghost use Rattle.am_line_dialogue.specs.ParsedLine.{parsed};
 ghost use Rattle.am_line_dialogue.specs.declared.lines.ParsedLine.TheVariants.{Asked};
-ghost use Rattle.am_replica_blocks.specs.Blocks.{BlockLine, waiting, asked_ops};
+ghost use Rattle.am_replica_blocks.specs.Blocks.{BlockLine, asked_ops};
 ghost use Rattle.am_replica_lines.specs.Lines.{AsksOps, told_lines};
-ghost use Rattle.am_replica_trials.specs.Trials.{HasLines, IsLineAnswered, has_room, has_answer_room};
-ghost use Rattle.am_replica_trials.specs.Trials.{longest_answer, first_trial};
+ghost use Rattle.am_replica_trials.specs.Open.{StandsBy};
+ghost use Rattle.am_replica_trials.specs.Trials.{HasLines, IsStage, IsLineAnswered, has_room, has_answer_room};
+ghost use Rattle.am_replica_trials.specs.Trials.{longest_answer, first_trial, records_wait};
 
 use crate::answer::TrialAnswer;
-use am_line_dialogue::{ParsedLine, Response, Session};
+use crate::open::OpenTrial;
+use am_line_dialogue::{Action, ParsedLine, Response, Session};
 use am_line_text::LineFault;
 use am_line_wire::{Request, reply_text};
-use am_record::{NoMemory, Op, Reply};
+use am_record::{NoMemory, Op, Records, Reply};
 use am_replica::{Digest, Machine, Transaction, TrialFault};
 use am_replica_entries::{Block, Told};
 use am_replica_lines::{parse_cut, stage, take_along};
@@ -36,13 +38,15 @@ pub struct LineTransaction {
     transaction: Transaction,
     session: Session,
     lines: Vec<u8>,
+    // The bytes of those up to the last operation.
+    tried: usize,
     answered: u32,
     answers_left: usize,
     is_over: bool,
 }
 
 impl Model for LineTransaction {
-    ghost use Rattle.am_replica_trials.specs.Trials.{TrialState, trial_code};
+    ghost use Rattle.am_replica_trials.specs.Trials.{TrialState, trial_code, IsInOrder};
 
     ghost Value = { TrialState };
 
@@ -56,6 +60,15 @@ impl Model for LineTransaction {
       answers_left = t.answers_left;
       is_over = t.is_over;
     } };
+
+    ghost invariant = { λ t. IsInOrder t.tried (record {
+      transaction = t.transaction;
+      session = t.session;
+      lines = t.lines.items;
+      answered = t.answered;
+      answers_left = t.answers_left;
+      is_over = t.is_over;
+    }) };
 }
 
 impl LineTransaction {
@@ -74,26 +87,30 @@ impl LineTransaction {
             transaction,
             session,
             lines: Vec::new(alloc),
+            tried: 0,
             answered: 0,
             answers_left: MAX_ANSWERS_LEN,
             is_over: false,
         })
     }
 
-    /// Takes a line, without its LF, where the store stands now.
+    /// Takes a line, without its LF, where the store stands now. Where the trial that is open in the store isn't the
+    /// transaction's own, all its operations are run again. Its own trial stays open.
     ///
     /// # Errors
-    /// NoMemory, where memory was refused: the replica ends.
+    /// NoMemory, where memory was refused: the replica ends, and the transaction is over.
     pub fn take<M: Machine, D: Digest>(
         &mut self,
         alloc: Global,
         machine: &mut M,
         digest: &D,
+        trial: &mut OpenTrial<D::Running>,
         line: &[u8],
     ) -> Result<TrialAnswer, NoMemory>
-        requires idle { M.idle machine.old }
+        requires stands { StandsBy (M.idle machine.old) (M.inside machine.old) D.holds (M.map machine.old) trial.old }
         requires one { HasNoLf line.now }
-        ensures idle { OnOk result (M.idle machine.new) }
+        ensures stands { OnOk result
+            (StandsBy (M.idle machine.new) (M.inside machine.new) D.holds (M.map machine.new) trial.new) }
         ensures same { OnOk result (M.map machine.new ≡ M.map machine.old) }
         ensures answered { (own : List BlockLine) → HasLines own self.old →
             IfOk result (λ answer.
@@ -112,7 +129,7 @@ impl LineTransaction {
                 if !self.has_answer_room(&op) {
                     return Ok(TrialAnswer::Limit);
                 }
-                self.operation(alloc, machine, digest, line, op)
+                self.operation(alloc, machine, digest, trial, line, op)
             }
             ParsedLine::Asked(Request::Stage(records)) => {
                 if self.is_over {
@@ -121,9 +138,7 @@ impl LineTransaction {
                 if !self.has_room(line) {
                     return Ok(TrialAnswer::Limit);
                 }
-                let response = stage(&mut self.session, records)?;
-                self.keep(line, 0)?;
-                Ok(TrialAnswer::Stage(response))
+                Ok(TrialAnswer::Stage(self.staging(line, records)?))
             }
             ParsedLine::Faulty(LineFault::NoMemory) => Err(NoMemory),
             ParsedLine::Faulty(fault) => Ok(TrialAnswer::Faulty(Response::Faulty(fault))),
@@ -132,31 +147,34 @@ impl LineTransaction {
         }
     }
 
-    /// The transaction as a block of an entry, where no records wait: a replica reads it as the operations that were
-    /// tried, of which all were told.
+    /// The transaction as a block of an entry, which a replica reads as the operations that were tried, of which all
+    /// were told. None, where records wait: they are loaded or put before.
     ///
     /// # Errors
     /// NoMemory, where memory was refused.
-    pub fn into_block(self, alloc: Global) -> Result<Block, NoMemory>
-        ensures read { (own : List BlockLine) → HasLines own self →
-            waiting [] own ≡ [] → IfOk result (λ entry. AsksOps entry.lines.items (told_lines entry.told)
-            (asked_ops [] own) (length (asked_ops [] own))) }
-        ensures lines { IfOk result (λ entry. entry.lines.items ≡ self.lines) }
-        ensures none { self.answered ≡ 0 → IfOk result (λ entry. entry.told ≡ None) }
-        ensures told { 0 < self.answered → IfOk result (λ entry. entry.told ≡
-            Some (record { lines = self.answered; digest = self.transaction.digest })) }
+    pub fn into_block(self, alloc: Global) -> Result<Option<Block>, NoMemory>
+        ensures waits { IfOk result (λ block. is_some block ≡ not (records_wait self.session)) }
+        ensures read { (own : List BlockLine) → HasLines own self → IfOk result (λ block. IfSome block (λ entry.
+            AsksOps entry.lines.items (told_lines entry.told) (asked_ops [] own) (length (asked_ops [] own)))) }
+        ensures lines { IfOk result (λ block. IfSome block (λ entry. entry.lines.items ≡ self.lines)) }
+        ensures none { self.answered ≡ 0 → IfOk result (λ block. IfSome block (λ entry. entry.told ≡ None)) }
+        ensures told { 0 < self.answered → IfOk result (λ block. IfSome block (λ entry. entry.told ≡
+            Some (record { lines = self.answered; digest = self.transaction.digest }))) }
     {
         let LineTransaction {
             transaction,
             session,
             lines,
+            tried: _,
             answered,
             answers_left: _,
             is_over: _,
         } = self;
-        drop(session);
+        if records_wait(session) {
+            return Ok(None);
+        }
         let told = told_of(alloc, transaction, answered)?;
-        Ok(Block { lines, told })
+        Ok(Some(Block { lines, told }))
     }
 
     // Tries an operation with what waits.
@@ -165,38 +183,62 @@ impl LineTransaction {
         alloc: Global,
         machine: &mut M,
         digest: &D,
+        trial: &mut OpenTrial<D::Running>,
         line: &[u8],
         op: Op,
     ) -> Result<TrialAnswer, NoMemory>
-        requires idle { M.idle machine.old }
+        requires stands { StandsBy (M.idle machine.old) (M.inside machine.old) D.holds (M.map machine.old) trial.old }
         requires one { HasNoLf line.now }
         requires not_over { self.old.is_over ≡ false }
-        requires few { self.old.answered < 2 ^ 31 }
-        ensures idle { OnOk result (M.idle machine.new) }
+        requires room { has_room self.old line.now ≡ true }
+        requires answer_room { has_answer_room self.old op ≡ true }
+        requires asks { parsed (line_of line.now) ≡ Asked (Request.Do op) }
+        ensures stands { OnOk result
+            (StandsBy (M.idle machine.new) (M.inside machine.new) D.holds (M.map machine.new) trial.new) }
         ensures same { OnOk result (M.map machine.new ≡ M.map machine.old) }
         ensures answered { (own : List BlockLine) → HasLines own self.old →
-            has_room self.old line.now ≡ true → has_answer_room self.old op ≡ true →
-            parsed (line_of line.now) ≡ Asked (Request.Do op) →
             IfOk result (λ answer.
             IsLineAnswered D.digest_of own self.old line.now (M.map machine.old) answer self.new) }
     {
-        let whole = [take_along(&mut self.session, op)?];
-        let told = self.transaction.trial(alloc, machine, digest, &whole);
-        match told {
+        // It is over, should memory be refused.
+        self.is_over = true;
+        let whole = take_along(&mut self.session, op)?;
+        trial.keep_for(alloc, machine, &self.lines[..self.tried])?;
+        match self
+            .transaction
+            .trial(machine, digest, &mut trial.digest, whole)
+        {
             Err(TrialFault::NoMemory) => Err(NoMemory),
-            Err(TrialFault::Conflict) => {
-                self.is_over = true;
-                Ok(TrialAnswer::Conflict)
-            }
-            Ok(mut told) => {
-                let Some(reply) = told.pop() else {
-                    return Err(NoMemory);
-                };
+            Err(TrialFault::Conflict) => Ok(TrialAnswer::Conflict),
+            Ok(reply) => {
                 let text = reply_text(alloc, &reply)?;
-                self.keep(line, text.as_slice().len())?;
+                put_line(&mut self.lines, line)?;
+                trial.go_on(&self.lines)?;
+                self.tried = self.lines.as_slice().len();
+                self.answered += 1;
+                self.answers_left = self.answers_left.saturating_sub(text.as_slice().len());
+                self.is_over = false;
                 Ok(TrialAnswer::Reply(reply))
             }
         }
+    }
+
+    // Has records wait.
+    fn staging(&mut self, line: &[u8], records: Records) -> Result<Response, NoMemory>
+        requires one { HasNoLf line.now }
+        requires not_over { self.old.is_over ≡ false }
+        requires room { has_room self.old line.now ≡ true }
+        requires asks { parsed (line_of line.now) ≡ Asked (Request.Stage records) }
+        ensures { (own : List BlockLine) → HasLines own self.old →
+            IfOk result (λ response. IsStage own self.old line.now response self.new) }
+    {
+        // It is over, should memory be refused.
+        self.is_over = true;
+        let response = stage(&mut self.session, records)?;
+        put_line(&mut self.lines, line)?;
+        self.answered += 1;
+        self.is_over = false;
+        Ok(response)
     }
 
     // Whether the block has room for the line.
@@ -214,23 +256,15 @@ impl LineTransaction {
     {
         longest_answer(op) <= self.answers_left
     }
+}
 
-    // Keeps a line that was answered, by an answer of so many bytes that count.
-    fn keep(&mut self, line: &[u8], answer_len: usize) -> Result<(), NoMemory>
-        requires { self.old.answered < 2 ^ 31 }
-        ensures lines { OnOk result (self.new.lines ≡ self.old.lines ++ (line.now ++ 10 ∷ [])) }
-        ensures answered { OnOk result (self.new.answered ≡ self.old.answered + 1) }
-        ensures transaction { self.new.transaction ≡ self.old.transaction }
-        ensures session { self.new.session ≡ self.old.session }
-        ensures answers_left { OnOk result (self.new.answers_left ≡ self.old.answers_left - answer_len) }
-        ensures over { self.new.is_over ≡ self.old.is_over }
-    {
-        self.lines.extend_from_slice(line)?;
-        self.lines.push(b'\n')?;
-        self.answered += 1;
-        self.answers_left = self.answers_left.saturating_sub(answer_len);
-        Ok(())
-    }
+// A line after the others, with its LF.
+fn put_line(lines: &mut Vec<u8>, line: &[u8]) -> Result<(), NoMemory>
+    ensures { OnOk result (lines.new.items ≡ lines.old.items ++ (line.now ++ 10 ∷ [])) }
+{
+    lines.extend_from_slice(line)?;
+    lines.push(b'\n')?;
+    Ok(())
 }
 
 // Bytes that no answer to the operation goes beyond.
@@ -246,6 +280,14 @@ fn longest_answer(op: &Op) -> usize
         }
         _ => MAX_SHORT_LEN,
     }
+}
+
+// Whether records wait in its transaction: then COMMIT isn't the store's to answer.
+fn records_wait(mut session: Session) -> bool
+    ensures { result ≡ records_wait session }
+{
+    let commit = session.action(ParsedLine::Asked(Request::Commit));
+    matches!(commit, Action::Answer(Response::StillStaged))
 }
 
 // What was told, where some lines were answered.

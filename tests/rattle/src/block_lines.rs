@@ -14,10 +14,24 @@ struct Nines;
 impl Digest for Nines {
     ghost use Rattle.std.specs.Prelude.{replicate};
 
+    type Running = ();
+
     ghost digest_of = { λ _. replicate 32 9 };
+
+    ghost holds = { λ _ _. Unit {0} };
 
     fn digest(&self, _replies: &[Reply]) -> Result<[u8; 32], NoMemory> {
         Ok([9; 32])
+    }
+
+    fn begin(&self) {}
+
+    fn add(&self, _nothing: &mut (), _reply: &Reply) -> Result<(), NoMemory> {
+        Ok(())
+    }
+
+    fn sum(&self, _nothing: &()) -> [u8; 32] {
+        [9; 32]
     }
 }
 

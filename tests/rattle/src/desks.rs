@@ -100,3 +100,49 @@ fn a_desk_is_kept_up(rt: HostRuntime) -> Result<(), Fail> {
     assert!(rt; matches!(desk.keep_up(b"GET ant"), Err(Fault::OtherLine)));
     Ok(())
 }
+
+#[test]
+fn a_transaction_stays_open_beside_other_calls(rt: HostRuntime) -> Result<(), Fail> {
+    let alloc = rt.alloc();
+    let mut desk = Desk::new(alloc, HashKey::known())?;
+    let mut first = begun(alloc)?;
+    let mut second = begun(alloc)?;
+    // Whatever comes between, its lines are answered as if it had come whole.
+    for between in 0..6 {
+        assert_eq!(rt;
+            told(&mut desk, &mut first, b"SET ant 6")?,
+            b"OK\n".as_slice()
+        );
+        match between {
+            0 => assert!(rt; desk.keep_up(b"MERGE 8").is_ok()),
+            1 => assert!(rt; desk.renew(HashKey::known()).is_ok()),
+            2 => assert!(rt; desk.restore(41).is_ok()),
+            3 => assert!(rt; matches!(desk.take_text(b"none"), Err(Fault::NoEntry))),
+            4 => {
+                let entry = b"\x01\0\0\0\x01\0\0\0\x0aSET bee 7\n\0";
+                assert!(rt; desk.take_text(entry).is_ok());
+                assert_eq!(rt; desk.answer(), b"OK\nCOMMITTED 42\n".as_slice());
+            }
+            _ => assert_eq!(rt;
+                told(&mut desk, &mut second, b"GET ant")?,
+                b"NONE\n".as_slice()
+            ),
+        }
+        assert_eq!(rt;
+            told(&mut desk, &mut first, b"GET ant")?,
+            b"VAL 6\n".as_slice()
+        );
+    }
+    assert_eq!(rt;
+        told(&mut desk, &mut first, b"GET bee")?,
+        b"VAL 7\n".as_slice()
+    );
+    assert_eq!(rt;
+        told(&mut desk, &mut second, b"STAGE cow=1")?,
+        b"OK\n".as_slice()
+    );
+    assert!(rt; matches!(desk.put_block(second), Err(Fault::Staged)));
+    assert_eq!(rt; desk.answer(), b"".as_slice());
+    assert!(rt; desk.put_block(first).is_ok());
+    Ok(())
+}

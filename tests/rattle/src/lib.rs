@@ -40,6 +40,7 @@ mod partitions;
 mod plain;
 mod put_sessions;
 mod puts;
+mod readers;
 mod recording;
 mod records;
 mod refused;

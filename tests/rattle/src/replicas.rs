@@ -20,6 +20,8 @@ impl Machine for PlainMachine {
 
     ghost idle = { λ _. Unit {0} };
 
+    ghost inside = { λ _ _ _. Unit {0} };
+
     fn run(&mut self, ops: &[Op]) -> Result<Vec<Reply>, NoMemory> {
         self.plain.forget_saved();
         self.plain.answer(&Op::Mark)?;
@@ -28,6 +30,10 @@ impl Machine for PlainMachine {
             replies.push(self.plain.answer(op)?)?;
         }
         Ok(replies)
+    }
+
+    fn go_on(&mut self, op: &Op) -> Result<Reply, NoMemory> {
+        self.plain.answer(op)
     }
 
     fn commit(&mut self) -> Result<(), NoMemory> {
@@ -48,15 +54,33 @@ struct Founds;
 impl Digest for Founds {
     ghost use Rattle.std.specs.Prelude.{replicate};
 
+    type Running = u8;
+
     ghost digest_of = { λ _. replicate 32 0 };
 
+    ghost holds = { λ _ _. Unit {0} };
+
     fn digest(&self, replies: &[Reply]) -> Result<[u8; 32], NoMemory> {
-        let mut sum = [0; 32];
-        sum[0] = 1;
+        let mut so_far = self.begin();
         for reply in replies {
-            sum[0] = sum[0] * 2 + u8::from(matches!(reply, Reply::Found(_)));
+            self.add(&mut so_far, reply)?;
         }
-        Ok(sum)
+        Ok(self.sum(&so_far))
+    }
+
+    fn begin(&self) -> u8 {
+        1
+    }
+
+    fn add(&self, so_far: &mut u8, reply: &Reply) -> Result<(), NoMemory> {
+        *so_far = *so_far * 2 + u8::from(matches!(reply, Reply::Found(_)));
+        Ok(())
+    }
+
+    fn sum(&self, so_far: &u8) -> [u8; 32] {
+        let mut sum = [0; 32];
+        sum[0] = *so_far;
+        sum
     }
 }
 
@@ -111,18 +135,28 @@ fn a_transaction_is_told_of_one_state(rt: HostRuntime) -> Result<(), Fail> {
     let alloc = rt.alloc();
     let mut replica = replica(alloc);
     let mut slow = Transaction::new(alloc, &Founds)?;
-    let told = slow.trial(alloc, &mut replica.machine, &Founds, &[get(1), insert(2)]);
-    assert!(rt; told.is_ok_and(|it| it.as_slice() == [Reply::Absent, Reply::Done].as_slice()));
+    let mut open = None;
+    for (op, told) in [(get(1), Reply::Absent), (insert(2), Reply::Done)] {
+        let answer = slow.trial(&mut replica.machine, &Founds, &mut open, op);
+        assert!(rt; answer.is_ok_and(|it| it == told));
+    }
+    // The next one goes on where it stands, and is told what it wrote.
+    let answer = slow.trial(&mut replica.machine, &Founds, &mut open, get(2));
+    assert!(rt; answer.is_ok_and(|it| matches!(it, Reply::Found(_))));
+    replica.machine.abort()?;
+    open = None;
     let other = vec![in alloc; block(vec![in alloc; insert(1)]?, 0, &[])]?;
     replica.apply_all(alloc, &other)?;
     // What it was told no longer comes, so nothing further is told.
     for _ in 0..2 {
-        let told = slow.trial(alloc, &mut replica.machine, &Founds, &[get(3)]);
+        let told = slow.trial(&mut replica.machine, &Founds, &mut open, get(3));
         assert!(rt; matches!(told, Err(TrialFault::Conflict)));
+        assert!(rt; open.is_none());
     }
     let mut quick = Transaction::new(alloc, &Founds)?;
-    let told = quick.trial(alloc, &mut replica.machine, &Founds, &[get(1)]);
-    assert!(rt; told.is_ok_and(|it| it.len() == 1));
+    let told = quick.trial(&mut replica.machine, &Founds, &mut open, get(1));
+    assert!(rt; told.is_ok_and(|it| matches!(it, Reply::Found(_))));
+    replica.machine.abort()?;
     let last = vec![in alloc; quick.into_block(alloc, &[insert(2)])?]?;
     let told = replica.apply_all(alloc, &last)?;
     assert!(rt; matches!(&told[0], Outcome::Committed(2, replies) if replies[1] == Reply::Done));

@@ -2,35 +2,58 @@
 
 use am_line_dialogue::Response;
 use am_line_text::LineFault;
-use am_record::{HashKey, Reply, Value};
-use am_replica::{Outcome, Replica};
+use am_record::{HashKey, NoMemory, Reply, Value};
+use am_replica::{Machine, Outcome, Replica};
 use am_replica_digest::AnswerDigest;
 use am_replica_entries::entry_text;
 use am_replica_store::ReplicaStore;
 use am_replica_texts::{EntryOutcome, apply_text};
-use am_replica_trials::{LineTransaction, TrialAnswer};
+use am_replica_trials::{LineTransaction, OpenTrial, TrialAnswer};
+use sha2::Sha256;
 use std::alloc::Global;
 use std::test::Fail;
 
-type Own = Replica<ReplicaStore, AnswerDigest>;
+// A replica, and what is open in its store.
+#[derive(Drop)]
+struct Own {
+    replica: Replica<ReplicaStore, AnswerDigest>,
+    trial: OpenTrial<Sha256>,
+}
 
 fn replica(alloc: Global) -> Result<Own, Fail> {
-    Ok(Replica {
+    let replica = Replica {
         machine: ReplicaStore::new(alloc, HashKey::known())?,
         digest: AnswerDigest::new(alloc),
         commits: 0,
+    };
+    Ok(Own {
+        replica,
+        trial: OpenTrial::none(alloc),
     })
+}
+
+fn take(
+    alloc: Global,
+    transaction: &mut LineTransaction,
+    own: &mut Own,
+    line: &[u8],
+) -> Result<TrialAnswer, NoMemory> {
+    let Replica {
+        machine,
+        digest,
+        commits: _,
+    } = &mut own.replica;
+    transaction.take(alloc, machine, digest, &mut own.trial, line)
 }
 
 // What a line is answered, in a few letters.
 fn answer(
     alloc: Global,
     transaction: &mut LineTransaction,
-    replica: &mut Own,
+    own: &mut Own,
     line: &[u8],
 ) -> Result<&'static str, Fail> {
-    let answer = transaction.take(alloc, &mut replica.machine, &replica.digest, line)?;
-    Ok(match answer {
+    Ok(match take(alloc, transaction, own, line)? {
         TrialAnswer::Reply(Reply::Done) => "OK",
         TrialAnswer::Reply(Reply::Absent) => "NONE",
         TrialAnswer::Reply(Reply::Found(value)) => {
@@ -52,10 +75,17 @@ fn answer(
     })
 }
 
+fn begun(alloc: Global) -> Result<LineTransaction, Fail> {
+    Ok(LineTransaction::new(alloc, &AnswerDigest::new(alloc))?)
+}
+
 // The transaction as an entry of its own: whether it committed.
-fn commits(alloc: Global, transaction: LineTransaction, replica: &mut Own) -> Result<bool, Fail> {
-    let text = entry_text(alloc, &vec![in alloc; transaction.into_block(alloc)?]?)?;
-    match apply_text(replica, alloc, &text)? {
+fn commits(alloc: Global, transaction: LineTransaction, own: &mut Own) -> Result<bool, Fail> {
+    own.replica.machine.abort()?;
+    own.trial = OpenTrial::none(alloc);
+    let block = transaction.into_block(alloc)?.unwrap();
+    let text = entry_text(alloc, &vec![in alloc; block]?)?;
+    match apply_text(&mut own.replica, alloc, &text)? {
         EntryOutcome::Applied(told) => Ok(matches!(told[0], Outcome::Committed(_, _))),
         EntryOutcome::Nothing => Ok(false),
     }
@@ -65,7 +95,7 @@ fn commits(alloc: Global, transaction: LineTransaction, replica: &mut Own) -> Re
 fn lines_are_tried_and_commit(rt: HostRuntime) -> Result<(), Fail> {
     let alloc = rt.alloc();
     let mut replica = replica(alloc)?;
-    let mut first = LineTransaction::new(alloc, &replica.digest)?;
+    let mut first = begun(alloc)?;
     let lines: [(&[u8], &str); 10] = [
         (b"GET ant", "NONE"),
         (b"STAGE ant=2 bee=3", "staged"),
@@ -83,7 +113,7 @@ fn lines_are_tried_and_commit(rt: HostRuntime) -> Result<(), Fail> {
         assert_eq!(rt; answer(alloc, &mut first, &mut replica, line)?, told);
     }
     // Nothing of it stayed, and another one commits before it.
-    let mut second = LineTransaction::new(alloc, &replica.digest)?;
+    let mut second = begun(alloc)?;
     assert_eq!(rt;
         answer(alloc, &mut second, &mut replica, b"GET ant")?,
         "NONE"
@@ -99,7 +129,7 @@ fn lines_are_tried_and_commit(rt: HostRuntime) -> Result<(), Fail> {
         "VAL 2"
     );
     assert!(rt; commits(alloc, first, &mut replica)?);
-    assert_eq!(rt; replica.commits, 2);
+    assert_eq!(rt; replica.replica.commits, 2);
     Ok(())
 }
 
@@ -107,8 +137,8 @@ fn lines_are_tried_and_commit(rt: HostRuntime) -> Result<(), Fail> {
 fn a_conflict_stays(rt: HostRuntime) -> Result<(), Fail> {
     let alloc = rt.alloc();
     let mut replica = replica(alloc)?;
-    let mut first = LineTransaction::new(alloc, &replica.digest)?;
-    let mut second = LineTransaction::new(alloc, &replica.digest)?;
+    let mut first = begun(alloc)?;
+    let mut second = begun(alloc)?;
     for transaction in [&mut first, &mut second] {
         assert_eq!(rt;
             answer(alloc, transaction, &mut replica, b"GET ant")?,
@@ -132,10 +162,10 @@ fn a_conflict_stays(rt: HostRuntime) -> Result<(), Fail> {
 fn a_block_has_a_bound(rt: HostRuntime) -> Result<(), Fail> {
     let alloc = rt.alloc();
     let mut replica = replica(alloc)?;
-    let mut transaction = LineTransaction::new(alloc, &replica.digest)?;
+    let mut transaction = begun(alloc)?;
     // A line is counted with 100 bytes more: of these no more than 587,155 have room.
     for _ in 0..587_155 {
-        let told = transaction.take(alloc, &mut replica.machine, &replica.digest, b"STAGE a=1")?;
+        let told = take(alloc, &mut transaction, &mut replica, b"STAGE a=1")?;
         assert!(rt; matches!(told, TrialAnswer::Stage(_)));
     }
     assert_eq!(rt;
@@ -153,5 +183,66 @@ fn a_block_has_a_bound(rt: HostRuntime) -> Result<(), Fail> {
         answer(alloc, &mut transaction, &mut replica, b"WHAT")?,
         "no line"
     );
+    Ok(())
+}
+
+#[test]
+fn transactions_take_turns(rt: HostRuntime) -> Result<(), Fail> {
+    let alloc = rt.alloc();
+    let mut replica = replica(alloc)?;
+    let mut first = begun(alloc)?;
+    let mut second = begun(alloc)?;
+    // They have the same first line, and are told what each wrote alone.
+    for transaction in [&mut first, &mut second] {
+        assert_eq!(rt;
+            answer(alloc, transaction, &mut replica, b"GET ant")?,
+            "NONE"
+        );
+    }
+    assert_eq!(rt;
+        answer(alloc, &mut first, &mut replica, b"SET ant 2")?,
+        "OK"
+    );
+    assert_eq!(rt;
+        answer(alloc, &mut second, &mut replica, b"STAGE bee=2")?,
+        "staged"
+    );
+    assert_eq!(rt;
+        answer(alloc, &mut first, &mut replica, b"GET ant")?,
+        "VAL 2"
+    );
+    assert_eq!(rt;
+        answer(alloc, &mut second, &mut replica, b"GET ant")?,
+        "NONE"
+    );
+    assert_eq!(rt;
+        answer(alloc, &mut second, &mut replica, b"LOAD cat=1")?,
+        "OK"
+    );
+    assert_eq!(rt;
+        answer(alloc, &mut second, &mut replica, b"GET bee")?,
+        "VAL 2"
+    );
+    assert_eq!(rt;
+        answer(alloc, &mut first, &mut replica, b"GET bee")?,
+        "NONE"
+    );
+    assert!(rt; commits(alloc, second, &mut replica)?);
+    assert_eq!(rt;
+        answer(alloc, &mut first, &mut replica, b"GET dog")?,
+        "conflict"
+    );
+    Ok(())
+}
+
+#[test]
+fn records_that_wait_make_no_block(rt: HostRuntime) -> Result<(), Fail> {
+    let alloc = rt.alloc();
+    let mut replica = replica(alloc)?;
+    let mut transaction = begun(alloc)?;
+    for (line, told) in [(b"GET ant".as_slice(), "NONE"), (b"STAGE ant=2", "staged")] {
+        assert_eq!(rt; answer(alloc, &mut transaction, &mut replica, line)?, told);
+    }
+    assert!(rt; transaction.into_block(alloc)?.is_none());
     Ok(())
 }

@@ -2,7 +2,7 @@ use Rattle.std.proofs.Common.{◌≡◌, ◌+◌, ◌∷◌, ◌∙◌, drop, sy
 use Rattle.std.proofs.lemmas.List.{drop_more, drop_all}
 use Rattle.am_replica.specs.Bodies.{own_behind}
 use Rattle.am_replica_store.specs.Alone.{committed_map, IsAlone}
-use Rattle.am_replica_store.proofs.Alone.{Ran, ran_one_more, ran_whole, ran_alone}
+use Rattle.am_replica_store.proofs.Alone.{Ran, ran_one_more, ran_whole, ran_inside, ran_alone}
 use Rattle.am_replica_store.proofs.store.ReplicaStoreMachine.run.Goals as goal
 
 pub invariant_of-self-in-loop-op : goal.invariant_of-self-in-loop-op
@@ -53,3 +53,11 @@ returns-clause-same c =
     (ran_whole c.steps_lift.ensures.lift c.steps_lift.ensures.sound c.loop-op.self-inside.store c.in_ok-tx.tx m
     c.loop-op.told.items all (subst (λ rest. Ran c.loop-op.self-inside.store c.in_ok-tx.tx m c.loop-op.told.items rest
     all) (drop_all c.loop-op.op-index all c.loop-op-test.false) c.loop-op.invariant.ran)).2
+
+pub returns-clause-inside : goal.returns-clause-inside
+returns-clause-inside c =
+    let all = c.args.ops.now in
+    let m = committed_map c.args.self.now in
+    ran_inside c.loop-op.self-inside.store c.in_ok-tx.tx m c.loop-op.told.items all
+    (subst (λ rest. Ran c.loop-op.self-inside.store c.in_ok-tx.tx m c.loop-op.told.items rest all)
+    (drop_all c.loop-op.op-index all c.loop-op-test.false) c.loop-op.invariant.ran)
