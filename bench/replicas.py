@@ -22,7 +22,8 @@ from typing import List, Tuple
 sys.dont_write_bytecode = True
 sys.path.insert(0, os.path.join(os.path.dirname(os.path.dirname(os.path.realpath(__file__))), "tests"))
 
-from cluster import STORE, Client, Cluster, until
+from cluster import Client, Cluster, until
+from support import AMSERVE
 
 from tiuvrokk_replica.etcd import Etcd, put_of
 
@@ -103,8 +104,8 @@ async def reads(port: int, clients: int, seconds: float, count: int) -> float:
 
 
 def alone(count: int, seconds: float) -> float:
-    """The same of the store itself, by a pipe."""
-    process = subprocess.Popen(shlex.split(STORE), stdin=subprocess.PIPE, stdout=subprocess.PIPE, bufsize=0)
+    """The same of a store alone, by a pipe."""
+    process = subprocess.Popen([AMSERVE, "alone", "--auto", "16"], stdin=subprocess.PIPE, stdout=subprocess.PIPE, bufsize=0)
     assert process.stdin and process.stdout
     into, out = process.stdin, process.stdout
 

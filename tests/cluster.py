@@ -1,7 +1,7 @@
 """Three members of etcd and some replicas on loopback, which a test starts, stops and kills.
 
 Every process is a child of the test, which ends it by `close`. The programs are those of the repository, unless the
-environment's AMREPLICA_STORE names another command for the store, or AMREPLICA_AUDITOR another auditor."""
+environment's TIUVROKK_REPLICA_LIBRARY names another library, or AMREPLICA_AUDITOR another auditor."""
 from __future__ import annotations
 
 import os
@@ -14,11 +14,10 @@ import sys
 import time
 from typing import Any, Callable, Dict, List, Optional, Sequence, Set
 
-from support import AMAUDIT, AMSERVE, LIMIT, TOP
+from support import AMAUDIT, LIMIT, TOP
 
 sys.path.insert(0, os.path.join(TOP, "python"))
 
-STORE = os.environ.get("AMREPLICA_STORE", f"{shlex.quote(AMSERVE)} alone --auto 16")
 AUDITOR = shlex.split(os.environ.get("AMREPLICA_AUDITOR", shlex.quote(AMAUDIT)))
 # That have a port.
 REPLICAS = 6
@@ -123,12 +122,13 @@ class Cluster:
     def continue_member(self, at: int) -> None:
         self.member(at).send_signal(signal.SIGCONT)
 
-    def start_replica(self, at: int, *words: str, endpoints: Sequence[str] = (), store: str = STORE) -> None:
+    def start_replica(self, at: int, *words: str, endpoints: Sequence[str] = (), under: Sequence[str] = (), **names: str) -> None:
+        """A replica that has these names in its environment, and is started under another command."""
         first = at % len(self.endpoints)  # each has another member to begin with
         members = endpoints or self.endpoints[first:] + self.endpoints[:first]
-        given = [f"{TOP}/amreplica", "--port", str(self.ports[at]), "--store", store, *words, *members]
+        given = [*under, f"{TOP}/amreplica", "--port", str(self.ports[at]), *words, *members]
         with open(f"{self.folder}/r{at}.log", "ab") as log:
-            self.replicas[at] = subprocess.Popen(given, stdout=subprocess.DEVNULL, stderr=log)
+            self.replicas[at] = subprocess.Popen(given, stdout=subprocess.DEVNULL, stderr=log, env={**os.environ, **names})
 
     def is_ready(self, at: int, limit: float = LIMIT) -> bool:
         """Whether the replica listens, within the limit."""

@@ -10,7 +10,7 @@ import subprocess
 import sys
 from typing import Any, Callable, List, Tuple
 
-from cluster import STORE, Cluster, until
+from cluster import Cluster, until
 from other_protocols import other_protocols
 from support import LIMIT, TOP, fail, wanted
 
@@ -36,20 +36,22 @@ def statuses(cluster: Cluster) -> None:
     for given in ["", "--port 65536 a:1", "--reads all a:1", "nowhere", "--log a/b a:1", "--limit 0 a:1", "--snapshot -1 a:1"]:
         wanted(f"the words {given}", run(*given.split())[:2], (2, ""))
     endpoint = cluster.endpoints[0]
-    wanted("a trace that can't be written", run("--trace", "/nowhere/trace", "--store", STORE, endpoint)[::2],
+    wanted("a trace that can't be written", run("--trace", "/nowhere/trace", endpoint)[::2],
            (4, "amreplica: /nowhere/trace: No such file or directory\n"))
-    wanted("a store that isn't there", run("--store", "/nowhere/store", endpoint)[0], 3)
+    names = {**os.environ, "TIUVROKK_REPLICA_LIBRARY": "/nowhere/library"}
+    wanted("a library that isn't there", run(endpoint, env=names)[::2],
+           (4, "amreplica: the library can't be loaded: /nowhere/library: cannot open shared object file: No such file or directory\n"))
     cluster.start_replica(0, "--log", "statuses", "--snapshot", "1", "--stats")
     wanted("a replica", cluster.is_ready(0), True)
     port = str(cluster.ports[0])
-    wanted("a port in use", run("--log", "statuses", "--store", STORE, "--port", port, endpoint)[::2],
+    wanted("a port in use", run("--log", "statuses", "--port", port, endpoint)[::2],
            (4, f"amreplica: port {port}: Address already in use\n"))
     trace = os.path.join(cluster.folder, "later")
     with open(trace, "w", encoding="ascii") as file:
         file.write("earlier\n")
     cluster.client(0).ask("BEGIN", "INS a 1", "COMMIT")
     wanted("a snapshot", until(lambda: "snapshot of" in cluster.notes(0)), True)
-    wanted("a trace that comes late", run("--log", "statuses", "--store", STORE, "--trace", trace, endpoint)[::2],
+    wanted("a trace that comes late", run("--log", "statuses", "--trace", trace, endpoint)[::2],
            (4, f"amreplica: {trace}: the log's beginning is in a snapshot, so no run can be stored\n"))
     with open(trace, encoding="ascii") as file:
         wanted("leaves its file", file.read(), "earlier\n")
@@ -98,7 +100,7 @@ def guarded(folder: str) -> None:
             with open(f"{folder}/m0.log", encoding="utf-8", errors="replace") as log:
                 fail(f"no read behind a restart; the member: {log.read()[-1000:]}; the replica: {cluster.notes(0)[-1000:]}")
         wanted("a commit", cluster.client(0).ask("BEGIN", "INS b 1", "COMMIT")[1:], ["OK", "COMMITTED 2"])
-        wrong = run(*access, "--user", "root", "--store", STORE, cluster.endpoints[0], input="wrong\n")
+        wrong = run(*access, "--user", "root", cluster.endpoints[0], input="wrong\n")
         wanted("a wrong password", (wrong[0], wrong[2].startswith("amreplica: etcd: ")), (5, True))
     finally:
         cluster.close()

@@ -3,21 +3,21 @@ from __future__ import annotations
 
 import asyncio
 import json
-import os
 import signal
 import threading
 import time
 from types import SimpleNamespace
-from typing import Any, Callable, Dict, List, Tuple
+from typing import Any, Callable, Dict, List, Sequence, Tuple
 
-from cluster import STORE, Client, Cluster, until
+from cluster import Client, Cluster, until
 from replica_ends import largest_block
 from support import fail, wanted
 
 from tiuvrokk_replica.etcd import Etcd, Refused, decoded, encoded
-from tiuvrokk_replica.log import Event, Log, WentBack
+from tiuvrokk_replica.library import StoreEnded
+from tiuvrokk_replica.log import Event, Log
+from tiuvrokk_replica.reader import WentBack
 from tiuvrokk_replica.snapshots import put_pieces
-from tiuvrokk_replica.store import StoreEnded
 
 NAME = "corners"
 LIMIT = 60
@@ -44,8 +44,8 @@ def floors(cluster: Cluster) -> int:
     return int(json.loads(found[0][2])["generation"]) if found else 0
 
 
-def start(cluster: Cluster, at: int, *words: str, store: str = STORE, limit: int = LIMIT) -> None:
-    cluster.start_replica(at, "--log", NAME, "--limit", str(limit), *words, store=store)
+def start(cluster: Cluster, at: int, *words: str, limit: int = LIMIT, under: Sequence[str] = ()) -> None:
+    cluster.start_replica(at, "--log", NAME, "--limit", str(limit), *words, under=under)
     if not cluster.is_ready(at):
         fail(f"replica {at} isn't ready: {cluster.notes(at)[-500:]}")
 
@@ -314,13 +314,11 @@ def equal(cluster: Cluster) -> None:
     wanted("equal records", [content == contents[0] for content in contents], [True] * 3)
 
 
-def ended_store(cluster: Cluster) -> None:
-    """A store that is killed ends its replica, and one that is refused memory does; the others go on."""
-    replica = cluster.replicas[0].pid
-    with open(f"/proc/{replica}/task/{replica}/children", encoding="ascii") as children:
-        os.kill(int(children.read().split()[0]), signal.SIGKILL)
-    wanted("a store that is killed", cluster.replicas[0].wait(60), 3)
-    start(cluster, 3, store=f"sh -c 'ulimit -v 60000; exec {STORE}'")
+def refused_memory(cluster: Cluster) -> None:
+    """A replica that is refused memory ends; the others go on."""
+    with open(f"/proc/{cluster.replicas[0].pid}/status", encoding="ascii") as status:
+        size = next(int(line.split()[1]) for line in status if line.startswith("VmSize:"))
+    start(cluster, 3, under=["sh", "-c", f'ulimit -v {size + 30_000}; exec "$@"', "sh"])
     one = cluster.client(1)
     keys = [f"m{number:06}" for number in range(500_000)]
     # (values of 16 bytes or fewer would fit into the memory that there is)
@@ -330,7 +328,8 @@ def ended_store(cluster: Cluster) -> None:
         lines = [f"STAGE {row}" for row in rows[at:at + 199]] + [f"LOAD {rows[at + 199]}"]
         wanted("a load", set(one.ask("BEGIN", *lines)[1:]), {"OK"})
         wanted("its end", one.ask("COMMIT")[0].split()[0], "COMMITTED")
-    wanted("a store that is refused memory", cluster.replicas[3].wait(60), 3)
+    wanted("a replica that is refused memory", cluster.replicas[3].wait(60), 3)
+    wanted("what it says", "amreplica: the store: memory was refused" in cluster.notes(3), True)
     wanted("the others", [sees(cluster, at, keys[-1]) for at in (1, 2)], [f"VAL {value}"] * 2)
 
 
@@ -364,12 +363,13 @@ def begun_within_an_entry() -> None:
     """Who begins by a snapshot reads from before it on, where an entry had begun whose head hadn't come. Of another one, which the
     snapshot has, it may be shown the end alone."""
     def put(revision: int, piece: str) -> Event:
-        return Event(revision, f"{NAME}/log/00000000/{piece}", encoded(piece.encode()))
+        entry, _, number = piece.partition(".")
+        return Event(revision, f"{NAME}/log/00000000/{names[entry]}.{number}", encoded(piece.encode()))
 
     def taken(since: int) -> Log:
         log = Log(None, NAME)  # type: ignore[arg-type]
         entries = [entry for event in events if event.revision > since and (entry := log.take(event))]
-        wanted("the entries that are read", [entry.name for entry in entries], ["whole"])
+        wanted("the entries that are read", [entry.name for entry in entries], [names["whole"]])
         try:
             texts.append(entries[0].text().decode())
         except WentBack as fault:
@@ -377,10 +377,11 @@ def begun_within_an_entry() -> None:
         return log
 
     texts: List[str] = []
+    names = {"whole": f"{1:032x}-1", "later": f"{2:032x}-1"}
     events = [put(2, "whole.0"), put(3, "later.0"), put(4, "whole.1"), put(5, "whole.!")]
     since = taken(0).first(5)
     taken(since)
-    wanted("its text, from the beginning and from there", texts, ["whole.0whole.1whole.!", "pieces of the entry whole weren't shown"])
+    wanted("its text, from the beginning and from there", texts, ["whole.0whole.1whole.!", f"pieces of the entry {names['whole']} weren't shown"])
 
 
 def all_corners(cluster: Cluster) -> None:
@@ -406,7 +407,7 @@ def all_corners(cluster: Cluster) -> None:
         ("slept longer", lambda: slept(cluster, 3)),
         ("no majority", lambda: no_majority(cluster)),
         ("equal", lambda: equal(cluster)),
-        ("a store that ends", lambda: ended_store(cluster)),
+        ("refused memory", lambda: refused_memory(cluster)),
         ("the largest block", lambda: largest_block(cluster.client(1), cluster.client(2))),
     ]
     for name, corner in corners:

@@ -10,13 +10,13 @@ import subprocess
 from typing import List, Optional
 
 from cluster import Client, Cluster, until
-from support import LIMIT, TOP, built, fail, wanted
+from support import LIMIT, TOP, fail, wanted
 
 # The log that refused stores read, the replica that goes on, and those that are tried at a time.
 LOG = "refused"
 LASTING, TRIED = 0, (3, 4, 5)
-# Each of a store's first allocations is refused in turn, and then each so many.
-FIRST, STEP = 12, 9
+# From which of a store's allocations on all are refused.
+POINTS = [*range(1, 12), *(int(12 * 1.35 ** power) for power in range(19))]
 # Records of a line, and lines of a run, so that a line counts 4,000 bytes of the 64,000,000 that a block has.
 LINE_RECORDS, RUN_LINES, LINES = 41, 1_599, 16_000
 
@@ -26,38 +26,37 @@ def load_line(name: str, number: int) -> str:
     return "LOAD " + " ".join(f"{name}{number:03}.{at:02}=v" for at in range(100))
 
 
+def refusing_library(folder: str) -> str:
+    """The library, with allocations of its own that can be refused."""
+    library, names = os.path.join(folder, "refusing.so"), os.path.join(folder, "names")
+    subprocess.run([f"{TOP}/install-library", "--replica", f"{folder}/installed"], check=True)
+    with open(names, "w", encoding="ascii") as file:
+        file.write("{ global: tvk_*; local: *; };\n")
+    archive = f"{folder}/installed/lib/libtiuvrokk_replica.a"
+    subprocess.run([*shlex.split(os.environ.get("CC", "cc")), "-O2", "-shared", "-fPIC", "-o", library, f"-Wl,--version-script={names}",
+                    f"{TOP}/tests/refuse_memory.c", "-Wl,--whole-archive", archive, "-Wl,--no-whole-archive", "-lpthread"],
+                   check=True, timeout=LIMIT)
+    return library
+
+
 def refused_allocations(cluster: Cluster) -> None:
-    """All allocations of a store from one on are refused, for each in turn: its replica ends with status 3, at its start or
-    once it needs memory, and tells nothing else than the others."""
-    library, count = os.path.join(cluster.folder, "refuse.so"), os.path.join(cluster.folder, "count")
-    compiler = shlex.split(os.environ.get("CC", "cc"))
-    words = [*compiler, "-O2", "-shared", "-fPIC", "-o", library, f"{TOP}/tests/refuse_memory.c"]
-    subprocess.run(words, check=True, timeout=LIMIT)
-    program = f"LD_PRELOAD={shlex.quote(library)} {shlex.quote(built('am_program_alone'))} alone"
+    """All allocations of a store from one on are refused, for some in turn: its replica ends with status 3, at its start or once it
+    needs memory, and tells nothing else than the others."""
+    library = refusing_library(os.path.join(cluster.folder, "refusing"))
     cluster.start_replica(LASTING, "--log", LOG, "--snapshot", "0")
     wanted("a replica that goes on", cluster.is_ready(LASTING), True)
     one = cluster.client(LASTING)
     for number in range(20):
         wanted("a block", one.ask("BEGIN", load_line("r", number), "SCAN r r~ 50", "COMMIT")[3].split()[0], "COMMITTED")
-    start(cluster, TRIED[0], f"env REFUSE_COUNT={shlex.quote(count)} {program}")
-    wanted("a replica with ample memory", cluster.is_ready(TRIED[0]), True)
-    cluster.replicas[TRIED[0]].terminate()
-    wanted("its store's end", until(lambda: os.path.exists(count) and os.path.getsize(count) > 0), True)
-    with open(count, encoding="ascii") as file:
-        made = int(file.read().split()[0])
-    points = [*range(1, min(FIRST, made)), *range(FIRST, made, STEP), made]
-    for at in range(0, len(points), len(TRIED)):
-        some = dict(zip(TRIED, points[at:at + len(TRIED)]))
+    for at in range(0, len(POINTS), len(TRIED)):
+        some = dict(zip(TRIED, POINTS[at:at + len(TRIED)]))
         for replica, point in some.items():
-            start(cluster, replica, f"env REFUSE_FROM={point} {program}")
+            names = {"TIUVROKK_REPLICA_LIBRARY": library, "REFUSE_FROM": str(point)}
+            cluster.start_replica(replica, "--log", LOG, "--snapshot", "0", **names)
         for replica, point in some.items():
             end_of(cluster, one, replica, f"a store refused from its allocation {point} on")
     cluster.kill_replica(LASTING)
-    print(f"replicas: of {made} allocations of a store those from {len(points)} points on were refused")
-
-
-def start(cluster: Cluster, at: int, store: str) -> None:
-    cluster.start_replica(at, "--log", LOG, "--snapshot", "0", store=store)
+    print(f"replicas: allocations of a store from {len(POINTS)} points on were refused, the last one {POINTS[-1]}")
 
 
 def end_of(cluster: Cluster, one: Client, replica: int, what: str) -> None:

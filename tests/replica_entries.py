@@ -11,9 +11,9 @@ from typing import Any, Dict
 from cluster import Cluster, until
 from support import LIMIT, wanted
 
-from tiuvrokk_replica.entries import LONGEST_TEXT, Batch, Block, NoEntry, entry_of, text_of
+from tiuvrokk_replica.entries import LONGEST_TEXT, NONE_OF_BLOCKS, Block, NoEntry, blocks_of, entry_of, text_of, unpacked
 from tiuvrokk_replica.etcd import Etcd, decoded, put_of
-from tiuvrokk_replica.transaction import Digest
+from tiuvrokk_replica.store import Store
 
 # Two blocks, and their text, as tests/rattle/src/replica_entries.rs has it.
 BLOCKS = [Block(b"INS 1\n"), Block(b"GET 1\nDEL 1\n", 1, 32 * b"\x09")]
@@ -22,60 +22,63 @@ TEXT = b"\x01\0\0\0\x02\0\0\0\x06INS 1\n\0\0\0\0\x0cGET 1\nDEL 1\n\x01\0\0\0\x01
 HEAD = b"\x01\0\0\0\x01\0\0\0\x08INS k 1\n"
 OLD = b"1\n8 1 0 %s\nBEGIN\nINS k 1\nCOMMIT\n" % hashlib.sha256().hexdigest().encode()
 PACKED = b"\x02" + zlib.compress(HEAD + b"\0")
+FAULTY = b"\x01\0\0\0\x02\0\0\0\x08INS k 1\n\0\0\0\0\x06INS 1\n\0"
 NONE = {
-    b"": "is cut short",
-    b"\x01\0\0": "is cut short",
-    HEAD: "is cut short",
-    b"\x01\xff\xff\xff\xff": "is cut short",
-    TEXT + b"\0": "has bytes after its end",
+    b"": "has no bytes",
+    b"\x01\0\0": NONE_OF_BLOCKS,
+    HEAD: NONE_OF_BLOCKS,
+    b"\x01\xff\xff\xff\xff": NONE_OF_BLOCKS,
+    HEAD + b"\0\0": NONE_OF_BLOCKS,
+    FAULTY: NONE_OF_BLOCKS,
     OLD: "is of the form before this version's: docs/replicas.md says how such a log is taken over",
     b"\x03\0\0\0\0": "is of form 3, which this version doesn't know",
-    HEAD + b"\x02": "has a flag that is 2, and neither 0 nor 1",
-    HEAD + b"\x01\0\0\0\0" + 32 * b"\x09": "has a digest of no answers",
+    HEAD + b"\x02": NONE_OF_BLOCKS,
+    HEAD + b"\x01\0\0\0\0" + 32 * b"\x09": NONE_OF_BLOCKS,
     PACKED[:-1]: "is cut short",
     PACKED + b"\0": "has bytes after its end",
-    b"\x02" + zlib.compress(HEAD): "is cut short",
+    b"\x02" + zlib.compress(HEAD): NONE_OF_BLOCKS,
     b"\x02" + zlib.compress(PACKED): "is of form 2, which this version doesn't know",
     b"\x02" + PACKED[3:]: "doesn't unpack: ",
     b"\x02" + zlib.compress(HEAD + bytes(LONGEST_TEXT), 1): f"unpacks to more than {LONGEST_TEXT} bytes",
 }
+# Of an entry that no replica wrote.
+OTHER = f"{7:032x}-1"
 # Of a log of its own each: what a replica that reads it ends by. (Of the first block nothing stands either.)
-ENDING = [OLD, TEXT[:-1], PACKED[:-1], *[none for none in NONE if len(none) > 90_000]]
+ENDING = [OLD, FAULTY, PACKED[:-1], *[none for none in NONE if len(none) > 90_000]]
 
 
-def fault_of(entry: bytes) -> str:
+def fault_of(store: Store, entry: bytes) -> str:
+    """What a replica says of an entry."""
     try:
-        return f"{len(Batch(entry).blocks())} blocks"
+        store.take(unpacked(entry))
     except NoEntry as fault:
         return str(fault)
+    return f"{store.commits} blocks committed"
 
 
 def entries_as_bytes() -> None:
-    """Entries have the bytes that the proved crate reads, and are read again; what is none is told by name."""
+    """Entries have the bytes that the proved crate reads, and are read again; what is none is told by name, and does nothing."""
     wanted("a text", text_of(BLOCKS), TEXT)
     wanted("a short entry", entry_of(BLOCKS), TEXT)
-    wanted("its blocks", Batch(TEXT).blocks(), BLOCKS)
-    for length in range(len(TEXT)):
-        wanted(f"its first {length} bytes", fault_of(TEXT[:length]), "is cut short")
+    wanted("its blocks", blocks_of(unpacked(TEXT)), BLOCKS)
     many = BLOCKS * 1000
     entry = entry_of(many)
     wanted("what is packed", (entry[:1], len(entry) < len(text_of(many)) / 20), (b"\x02", True))
-    wanted("unpacked", Batch(entry).blocks(), many)
+    wanted("unpacked", blocks_of(unpacked(entry)), many)
     dense = [Block(b"INS %s\n" % os.urandom(5000).replace(b"\n", b"."))]
     wanted("what doesn't shrink", entry_of(dense), text_of(dense))
-    wanted("lines for the store", Batch(TEXT).lines(), b"BEGIN\nINS 1\nCOMMIT\nBEGIN\nGET 1\nDEL 1\nCOMMIT\n")
-    wanted("a last line with no LF", Batch(b"\x01\0\0\0\x01\0\0\0\x05GET 1\0").blocks(), [Block(b"GET 1\n")])
+    wanted("a last line with no LF", blocks_of(b"\x01\0\0\0\x01\0\0\0\x05GET 1\0"), [Block(b"GET 1\n")])
+    store = Store()
+    for length in range(1, len(TEXT)):
+        wanted(f"its first {length} bytes", fault_of(store, TEXT[:length]), NONE_OF_BLOCKS)
     for none, fault in NONE.items():
-        wanted(f"what is said of {none[:40]!r}", fault_of(none)[:len(fault)], fault)
-    digest = Digest()
-    for line, answer in ((b"GET 1", b"NONE"), (b"STAGE 1=1", b"OK"), (b"LOAD 1=1", b"ERR ORDER"), (b"INS 1 1", b"OK")):
-        digest.add(line, answer)
-    wanted("a digest", digest.value(), hashlib.sha256(b"NONE\nOK\n").digest())
+        wanted(f"what is said of {none[:40]!r}", fault_of(store, none)[:len(fault)], fault)
+    wanted("what is one", fault_of(store, HEAD + b"\0"), "1 blocks committed")
 
 
 def put_entry(cluster: Cluster, log: str, entry: bytes, generation: int = 0) -> None:
     """As replicas do."""
-    puts = [put_of(f"{log}/log/{generation:08d}/other.!", entry), put_of(f"{log}/tail", b"other")]
+    puts = [put_of(f"{log}/log/{generation:08d}/{OTHER}.!", entry), put_of(f"{log}/tail", OTHER.encode())]
     asyncio.run(Etcd(cluster.endpoints).must("/v3/kv/txn", {"success": [{"requestPut": put} for put in puts]}))
 
 
@@ -94,7 +97,7 @@ def ends_by(cluster: Cluster, at: int, what: str, fault: str) -> None:
 def no_entries(cluster: Cluster) -> None:
     """A replica that runs ends by what is no entry, and so does one that begins then, before it listens."""
     for number, entry in enumerate(ENDING):
-        log, fault = f"none{number}", f"the entry other {NONE.get(entry, 'is cut short')}"
+        log, fault = f"none{number}", f"the entry {OTHER} {NONE[entry]}"
         cluster.start_replica(0, "--log", log)
         wanted("a replica", cluster.is_ready(0), True)
         wanted("a block", cluster.client(0).ask("BEGIN", "INS first 1", "COMMIT")[2], "COMMITTED 1")
@@ -114,8 +117,10 @@ def operations_alone(cluster: Cluster) -> None:
         answers = one.ask("BEGIN", f"INS {number} 1", line, "LOCK X a b", "DELR a b 9", "COMMIT")
         wanted(f"what {line} is answered", [answer.split()[0] for answer in answers], ["BEGUN", "OK", "ERR", "OK", "DELETED", "COMMITTED"])
     found = asyncio.run(Etcd(cluster.endpoints).get(f"{log}/log/", f"{log}/log0"))["kvs"]
-    bodies = {body for kv in found for body in Batch(decoded(kv["value"])).bodies}
-    wanted("what is put", bodies, {b"INS %d 1\nLOCK X a b\nDELR a b 9\n" % number for number in range(7)})
+    bodies = {block.body for kv in found for block in blocks_of(unpacked(decoded(kv["value"])))}
+    # (one that the store refuses is an operation)
+    lines = [b"SCAN a b 1001\n" if number == 3 else b"" for number in range(7)]
+    wanted("what is put", bodies, {b"INS %d 1\n%sLOCK X a b\nDELR a b 9\n" % it for it in enumerate(lines)})
     cluster.kill_replica(0)
 
 
@@ -136,7 +141,7 @@ def taken_over(cluster: Cluster) -> None:
     cluster.kill_replica(1)
     floor = floor_of(cluster, log)
     put_entry(cluster, log, OLD, floor["generation"])
-    ends_by(cluster, 0, "an entry after the snapshot", f"the entry other {NONE[OLD]}")
+    ends_by(cluster, 0, "an entry after the snapshot", f"the entry {OTHER} {NONE[OLD]}")
     put_floor(cluster, log, {**floor, "form": 9})
     cluster.start_replica(0, "--log", log)
     ends_by(cluster, 0, "a form to come", f"the snapshot {floor['id']} begins a log of form 9, which this version doesn't know")

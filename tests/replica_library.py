@@ -1,33 +1,39 @@
 #!/usr/bin/env python3
 """The proved rules of replicas as a library: worked and bad calls of tiuvrokk_replica.h from C, with each allocation refused in turn;
 then random transactions of three sessions, tried and taken as entries by two replicas, against what `amserve alone` answers to
-the same lines; and random trials and entries against what `amreplica` makes of them, whose own code keeps to the same rules."""
+the same lines; and random trials, entries and changes of a log against what `amreplica` makes of them, and a plain reader."""
 
 import asyncio
 import ctypes
+import json
 import os
 import random
 import struct
 import subprocess
 import sys
 import tempfile
-from typing import Any, Dict, List, NamedTuple, Optional, Tuple
+from typing import Any, Dict, List, NamedTuple, Optional, Set, Tuple, Union
 
 from support import AMSERVE, LIMIT, TOP, fail, wanted
 
 sys.path.insert(0, f"{TOP}/python")
 
+from tiuvrokk_replica import entries  # noqa: E402
 from tiuvrokk_replica.entries import Block, entry_of, text_of  # noqa: E402
-from tiuvrokk_replica.etcd import Etcd  # noqa: E402
+from tiuvrokk_replica.etcd import Etcd, encoded  # noqa: E402
 from tiuvrokk_replica.lines import is_sure  # noqa: E402
-from tiuvrokk_replica.log import Log  # noqa: E402
+from tiuvrokk_replica.log import Event, Log  # noqa: E402
+from tiuvrokk_replica.reader import WentBack  # noqa: E402
 from tiuvrokk_replica.replica import Outcome, Replica, Waiting  # noqa: E402
-from tiuvrokk_replica.store import Store as Program  # noqa: E402
+from tiuvrokk_replica.store import Store as RunningStore  # noqa: E402
 from tiuvrokk_replica.transaction import Transaction  # noqa: E402
 
 CC = os.environ.get("CC", "cc")
-# Random steps, and entries.
-STEPS, ENTRIES, SEED = 6000, 400, 7
+# Random steps, entries, and changes of a log.
+STEPS, ENTRIES, CHANGES, SEED = 6000, 400, 20000, 7
+# Statuses of the header, and the part that is a head.
+OK, ABSENT, STAGED, WENT_BACK, PARTS_MISSING = 0, 1, 27, 28, 29
+HEAD = 2 ** 64 - 1
 CALLS = """\
 GET ant: NONE
 SET ant 6: OK
@@ -46,9 +52,40 @@ commits 1
 GET dog: NONE
 DEL cat: OK
 again: COMMITTED 2
+together: OK||ERR SYNTAX|VAL 7|NONE
+one alone: VAL 6
+none: -
+SET fox 1: OK
+GET fox: NONE
+GET fox: VAL 1
+STAGE gnu=1: OK
+one that tells nobody: commits 2
 RSCAN a z 10: ROWS 2 bee=1 ant=6
 INS eel 9: OK
 behind a snapshot: COMMITTED 42
+a piece: -
+again: -
+a short one: entry
+another piece: -
+its head: an entry of three parts
+a late head: -
+of another generation: -
+a third one: -
+generation 0, behind 8, may 1
+moved: a floor
+moved again: a floor
+generation 1, behind 10, may 0
+its generation is over: -
+no first piece: -
+its head: parts missing
+a floor of another log: went back
+it is over: went back
+generation 1, behind 12, may 1
+no first piece: -
+its head: parts missing
+moved: a floor
+behind it: no more
+generation 2, behind 16, may 1
 as wanted
 """
 
@@ -111,6 +148,12 @@ class Library:
     def block(self, transaction: Handle) -> bytes:
         return self.answer(self.calls.tvk_replica_block(ctypes.byref(self.handle), ctypes.byref(transaction),
                                                         ctypes.byref(self.length)))
+
+    def no_block(self, transaction: Handle) -> None:
+        """Of a transaction whose records wait."""
+        wanted("a block whose records wait", self.calls.tvk_replica_block(ctypes.byref(self.handle), ctypes.byref(transaction), None),
+               STAGED)
+        wanted("its handle", transaction.at, None)
 
     def keep_up(self, line: bytes) -> None:
         self.answer(self.calls.tvk_replica_keep_up(ctypes.byref(self.handle), line, ctypes.c_size_t(len(line)),
@@ -231,8 +274,11 @@ def random_transactions(calls: Any) -> str:
         else:
             sessions[number] = None
             waits = waiting(own)
-            if own.told[-1:] == [b"ERR CONFLICT\n"] or waits:
+            if own.told[-1:] == [b"ERR CONFLICT\n"]:
                 one.end(own.handle)
+                continue
+            if waits:
+                one.no_block(own.handle)
                 continue
             rest = [line for line in (drawn(rng) for _ in range(rng.randrange(3))) if line.split(b" ")[0] in (b"GET", b"SET", b"DEL", b"INS")
                     and b" k" in line and len(line) < 20]
@@ -280,11 +326,11 @@ class Given(NamedTuple):
 
 
 class Both:
-    """The code that `amreplica` runs, and the proved one."""
+    """The code that `amreplica` runs, and the library that it calls."""
 
     def __init__(self, calls: Any, rng: random.Random) -> None:
         self.library, self.rng = Library(calls), rng
-        self.replica = Replica(Log(Etcd([]), "none"), Program([AMSERVE, "alone"]), 0)
+        self.replica = Replica(Log(Etcd([]), "none"), RunningStore(), 0)
         self.entries = self.blocks = 0
         self.ends: Dict[bytes, int] = {b"COMMITTED": 0, b"ERR CONFLICT": 0}
 
@@ -296,13 +342,9 @@ class Both:
             if is_sure(line) and not line.startswith(b"STAGE "):
                 own.add(line)
                 wanted(f"the answer to {line!r}", self.library.try_line(handle, line)[:-1], *own.trial(self.replica.store, 0))
-        told = own.block()
-        # (refused lines stand in its block alone, and are no part of the digest)
-        block = self.library.block(handle)
-        if told.told:
-            wanted("a digest", block[-32:], told.digest)
-        self.replica.store.end_trial()
-        return told
+        block = own.block()
+        wanted("a block", text_of([block]), self.library.block(handle))
+        return block
 
     def take(self, blocks: List[Block]) -> None:
         """An entry of these blocks."""
@@ -311,9 +353,6 @@ class Both:
         name, found = f"none-{self.entries}", []  # type: Tuple[str, List[Outcome]]
         self.replica.on_way[name] = [Waiting(blocks, found.extend)]
         self.replica.apply_entry(Given(name, entry_of(blocks)))  # type: ignore[arg-type]
-        self.replica.store.flush()
-        while self.replica.store.awaited:
-            self.replica.store.read()
         right = self.library.take(text_of(blocks))
         wanted(f"what the blocks of entry {self.entries} came to", b"".join(found), right)
         for outcome in found:
@@ -324,6 +363,7 @@ class Both:
 async def running_code(calls: Any) -> str:
     """Trials and entries by the code that `amreplica` runs, and by the library."""
     rng = random.Random(SEED)
+    entries.LOADS = 3  # (so that some entries are taken in portions)
     both = Both(calls, rng)
     waiting: List[Block] = []
     for _ in range(ENTRIES):
@@ -338,8 +378,7 @@ async def running_code(calls: Any) -> str:
         rng.shuffle(blocks)
         both.take(blocks)
     look = both.library.begin()
-    found = both.replica.store.free([b"BEGIN", b"SCAN a z 1000", b"ABORT"])[1]
-    wanted("all records", both.library.try_line(look, b"SCAN a z 1000")[:-1], found)
+    wanted("all records", both.library.try_line(look, b"SCAN a z 1000")[:-1], both.replica.store.look(b"SCAN a z 1000"))
     both.library.end(look)
     both.library.close()
     both.replica.store.close()
@@ -348,15 +387,257 @@ async def running_code(calls: Any) -> str:
     return f"{both.blocks} blocks of {both.entries} entries come to the same by the code that runs"
 
 
+class Put(NamedTuple):
+    """A part of an entry that was put under a generation."""
+
+    revision: int
+    generation: int
+    entry: Tuple[int, int]
+    part: int
+    is_new: bool
+    text: bytes
+
+    def event(self) -> Event:
+        """As the cluster shows it to `amreplica`."""
+        part = "!" if self.part == HEAD else str(self.part)
+        name = "{:032x}-{}".format(*self.entry)
+        return Event(self.revision, f"none/log/{self.generation:08d}/{name}.{part}", encoded(self.text))
+
+
+class Moved(NamedTuple):
+    """The floor moved, to a snapshot that has all up to a revision."""
+
+    revision: int
+    since: int
+    generation: int
+    read: int
+
+    def event(self) -> Event:
+        """As the cluster shows it to `amreplica`."""
+        told = {"since": self.since, "generation": self.generation, "id": f"g-{self.revision:032x}"}
+        return Event(self.revision, "none/floor", encoded(json.dumps(told).encode()))
+
+
+class Writing:
+    """An entry that is being put: its parts, the generation under which that is done, and which one is next."""
+
+    def __init__(self, rng: random.Random, number: int, generation: int) -> None:
+        self.name = (rng.getrandbits(128) if rng.random() < 0.5 else 1, number)
+        self.texts = [rng.randbytes(rng.randrange(4)) for _ in range(rng.choice((1, 1, 2, 3, 5)))]
+        self.generation, self.next = generation, 0
+
+    def part(self) -> int:
+        return self.next if self.next + 1 < len(self.texts) else HEAD
+
+
+class Cluster:
+    """What a cluster shows of writers at random: their parts among one another's, some twice, some late."""
+
+    def __init__(self, rng: random.Random) -> None:
+        self.rng = rng
+        self.revision = self.floor = self.generation = self.number = 0
+        self.keys: Set[Tuple[int, Tuple[int, int], int]] = set()
+        self.changes: List[Union[Put, Moved]] = []
+        self.open: List[Writing] = []
+
+    def put(self, generation: int, entry: Tuple[int, int], part: int, text: bytes) -> bool:
+        """Whether it counts."""
+        key = (generation, entry, part)
+        self.revision += 1
+        self.changes.append(Put(self.revision, generation, entry, part, key not in self.keys, text))
+        counts = key not in self.keys and generation == self.generation
+        self.keys.add(key)
+        return counts
+
+    def move(self) -> None:
+        """Begins a generation; what is of the last but one is let go."""
+        read = self.rng.choice([it.revision for it in self.changes if it.revision > self.floor])
+        self.revision += 1
+        self.generation += 1
+        self.changes.append(Moved(self.revision, self.floor, self.generation, read))
+        self.floor = self.revision
+        self.keys = {key for key in self.keys if key[0] >= self.generation - 1}
+
+    def write(self) -> None:
+        """The next part of some entry, which begins anew where its generation is over, sooner or later."""
+        if len(self.open) < 4:
+            self.number += 1
+            self.open.append(Writing(self.rng, self.number, self.generation))
+        own = self.rng.choice(self.open)
+        if own.generation != self.generation and self.rng.random() < 0.7:
+            own.generation, own.next = self.generation, 0
+        counts = self.put(own.generation, own.name, own.part(), own.texts[own.next])
+        own.next = (own.next + 1) % len(own.texts)
+        if not own.next and counts:
+            self.open.remove(own)
+
+    def change(self) -> None:
+        """One change, or some that nobody is told of."""
+        chance = self.rng.random()
+        puts = [it for it in self.changes[-60:] if isinstance(it, Put)]
+        if chance < 0.02 and puts and puts[-1].revision > self.floor:
+            self.move()
+        elif chance < 0.2 and puts:
+            again = self.rng.choice(puts)
+            self.put(again.generation, again.entry, again.part, again.text)
+        elif chance < 0.25:
+            self.revision += self.rng.randrange(3)
+        else:
+            self.write()
+
+
+class Name(ctypes.Structure):
+    _fields_ = [("writer_high", ctypes.c_uint64), ("writer_low", ctypes.c_uint64), ("number", ctypes.c_uint64)]
+
+
+class PlainLog:
+    """A reader of a log, in plain words."""
+
+    def __init__(self) -> None:
+        self.floor = self.generation = 0
+        self.pieces: Dict[Tuple[int, int], List[Put]] = {}
+
+    def put(self, put: Put) -> Tuple[int, bytes]:
+        """What a put comes to, and the text of the entry that it ends."""
+        if not put.is_new or put.generation != self.generation:
+            return ABSENT, b""
+        if put.part != HEAD:
+            self.pieces.setdefault(put.entry, []).append(put)
+            return ABSENT, b""
+        parts = self.pieces.pop(put.entry, [])
+        if [it.part for it in parts] != list(range(len(parts))):
+            return PARTS_MISSING, b""
+        return OK, b"".join(it.text for it in [*parts, put])
+
+    def move(self, floor: Moved) -> int:
+        """What a floor comes to."""
+        if floor.revision <= self.floor:
+            return OK
+        if floor.since != self.floor:
+            return WENT_BACK
+        self.floor, self.generation = floor.revision, floor.generation
+        self.pieces.clear()
+        return OK
+
+    def first(self, revision: int) -> int:
+        """Behind which revision somebody reads who begins then."""
+        return min([revision, *(it.revision - 1 for parts in self.pieces.values() for it in parts)])
+
+
+class Logs:
+    """A log as `amreplica` reads it, as the library does, and in plain words, from the beginning or by the snapshot that a floor
+    names."""
+
+    def __init__(self, calls: Any, floor: Optional[Moved] = None) -> None:
+        self.calls, self.handle, self.told = calls, Handle(), ctypes.c_uint64()
+        self.log, self.plain = Log(Etcd([]), "none"), PlainLog()
+        if floor:
+            self.log.begin_behind({"since": floor.since, "generation": floor.generation})
+            self.plain.floor, self.plain.generation = floor.since, floor.generation - 1
+            wanted("opened", self.ask("open_behind", floor.since, floor.generation), OK)
+        else:
+            wanted("opened", self.ask("open"), OK)
+
+    def ask(self, call: str, *given: Any) -> int:
+        """The status of a call."""
+        words = [ctypes.c_uint64(it) if isinstance(it, int) else it for it in given]
+        status: int = getattr(self.calls, f"tvk_log_{call}")(ctypes.byref(self.handle), *words)
+        return status
+
+    def number(self, call: str, *given: int) -> int:
+        """What a call says."""
+        wanted(call, self.ask(call, *given, ctypes.byref(self.told)), OK)
+        return self.told.value
+
+    def found(self, put: Put) -> Tuple[int, bytes]:
+        """What a put comes to, by the library, and the text that stands then."""
+        writer, number = put.entry
+        name, text = Name(writer >> 64, writer % 2 ** 64, number), put.text
+        status = self.ask("put", put.revision, put.generation, ctypes.byref(name), put.part, ctypes.c_int(put.is_new), text,
+                          ctypes.c_size_t(len(text)), ctypes.byref(self.told))
+        room, length = ctypes.create_string_buffer(100), self.told.value
+        wanted("copied", self.ask("text", 0, room, ctypes.c_size_t(len(room)), ctypes.byref(self.told)), OK)
+        wanted("its length", self.told.value, length)
+        return status, room.raw[:length]
+
+    def running(self, put: Put) -> Tuple[int, bytes]:
+        """The same by the code that runs, which is told of new keys alone."""
+        entry = self.log.take(put.event()) if put.is_new else None
+        if entry is None:
+            return ABSENT, b""
+        try:
+            return OK, entry.text()
+        except WentBack:
+            return PARTS_MISSING, b""
+
+    def move(self, floor: Moved) -> int:
+        """The status of a floor, by all."""
+        status = self.ask("move", floor.revision, floor.since, floor.generation, 0, floor.revision)
+        wanted(f"the status of {floor}", status, self.plain.move(floor))
+        try:
+            self.log.take(floor.event())
+            wanted(f"the status of {floor}", status, OK)
+        except WentBack:
+            wanted(f"the status of {floor}", status, WENT_BACK)
+        return status
+
+    def show(self, change: Union[Put, Moved]) -> int:
+        """Tells all of a change, and gives the status."""
+        if isinstance(change, Moved):
+            status = self.move(change)
+        else:
+            status, text = self.found(change)
+            wanted(f"what {change} comes to", [(status, text), self.running(change)], [self.plain.put(change)] * 2)
+        revision = change.revision
+        wanted("generations", [self.number("generation"), self.log.generation], [self.plain.generation] * 2)
+        wanted("beginnings", [self.number("first_behind", revision), self.log.first(revision)], [self.plain.first(revision)] * 2)
+        return status
+
+    def close(self) -> None:
+        wanted("closed", self.ask("close"), OK)
+
+
+async def random_logs(calls: Any) -> str:
+    """Changes of a log, by the code that `amreplica` runs, and by the library: from the beginning, and by each snapshot."""
+    cluster = Cluster(random.Random(SEED))
+    while len(cluster.changes) < CHANGES:
+        cluster.change()
+    floors = [it for it in cluster.changes if isinstance(it, Moved)]
+    ends = {OK: 0, ABSENT: 0, PARTS_MISSING: 0}
+    firsts: Dict[int, int] = {}
+    whole = Logs(calls)
+    for change in cluster.changes:
+        ends[whole.show(change)] += isinstance(change, Put)
+        firsts[change.revision] = whole.log.first(change.revision)
+        if isinstance(change, Moved):
+            wanted("a floor that comes again", whole.move(change), OK)
+    wanted("missing parts of a log that was read from its beginning", ends[PARTS_MISSING], 0)
+    for floor in floors:
+        behind = Logs(calls, floor)
+        rest = [it for it in cluster.changes if it.revision > firsts[floor.read]]
+        for change in rest[:200]:
+            ends[behind.show(change)] += isinstance(change, Put)
+        stray = Moved(rest[-1].revision + 1, rest[-1].revision + 1, behind.log.generation + 1, 0)
+        wanted("a floor of another log", behind.move(stray), WENT_BACK)
+        behind.close()
+    whole.close()
+    found = f"{len(cluster.changes)} changes of a log, also by each of {len(floors)} snapshots, come to the same: {ends[OK]} entries"
+    if not (len(floors) > 200 and ends[OK] > 10000 and ends[PARTS_MISSING] > 50):
+        fail(f"{found}, {ends}")
+    return found
+
+
 def main() -> None:
     with tempfile.TemporaryDirectory() as folder:
         installed = os.path.join(folder, "installed")
         # (which is proved first where that hasn't been done)
         subprocess.run([f"{TOP}/install-library", "--replica", installed], check=True)
         print(f"replica_library: {worked_calls(folder, installed)}")
-        calls = ctypes.CDLL(f"{installed}/lib/libtiuvrokk_replica.so")
+        os.environ["TIUVROKK_REPLICA_LIBRARY"] = f"{installed}/lib/libtiuvrokk_replica.so"
+        calls = ctypes.CDLL(os.environ["TIUVROKK_REPLICA_LIBRARY"])
         print(f"replica_library: {random_transactions(calls)}")
         print(f"replica_library: {asyncio.run(running_code(calls))}")
+        print(f"replica_library: {asyncio.run(random_logs(calls))}")
 
 
 if __name__ == "__main__":

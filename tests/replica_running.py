@@ -3,12 +3,7 @@ from __future__ import annotations
 
 import asyncio
 import json
-import os
-import shlex
-from functools import lru_cache
 from typing import Any, Awaitable, Dict, List, Optional, Set
-
-from support import built
 
 from tiuvrokk_replica.entries import Block
 from tiuvrokk_replica.etcd import Etcd, Message, decoded, encoded
@@ -20,13 +15,6 @@ from tiuvrokk_replica.store import Store
 PATIENCE = 60.0
 
 
-@lru_cache(None)
-def store() -> List[str]:
-    """The command of the store behind a replica."""
-    given = os.environ.get("AMREPLICA_STORE")
-    return shlex.split(given) if given else [built("am_program_alone"), "alone"]
-
-
 class Running:
     """A replica of a log, which writes a snapshot after so many blocks, or none."""
 
@@ -34,7 +22,7 @@ class Running:
         self.told = told  # the numbers of the blocks that were told to stand, by their keys
         self.etcd = Etcd(endpoints)
         self.log = Log(self.etcd, log)
-        self.store = Store(store())
+        self.store = Store()
         self.replica = Replica(self.log, self.store, every)
         self.life: Optional["asyncio.Task[None]"] = None
 

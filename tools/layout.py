@@ -12,10 +12,12 @@ from typing import Dict, Iterable, List, NamedTuple, Optional
 TOP = os.path.dirname(os.path.dirname(os.path.abspath(__file__)))
 # (for what makes the Python package)
 sys.path.insert(0, os.path.join(TOP, "python"))
-# The proved programs by their crates, and where each is installed.
 # The list of what was installed.
 LIST = "lib/tiuvrokk/installed"
+# The proved programs by their crates, and where each is installed.
 PROVED = {"am_program_alone": "lib/tiuvrokk/alone/amserve", "am_program_listen": "lib/tiuvrokk/listen/amserve", "am_program_audit": "bin/amaudit"}
+# The crate of the library that amreplica runs by.
+REPLICA = "am_c_replica"
 PYTHON_PROGRAMS = ["amload", "amdump", "amcli", "amdraw", "amreplica"]
 COMMANDS = ["amserve", "amaudit", *PYTHON_PROGRAMS]
 AMSERVE = """#!/bin/bash
@@ -54,11 +56,12 @@ def version() -> str:
 
 
 def built_programs(folder: Optional[str]) -> Dict[str, bytes]:
-    """The proved programs: those of a folder, or those of the sources, which are built where they aren't."""
-    names = list(PROVED)
+    """The proved programs, and the library of replicas: those of a folder, or those of the sources, which are built where they
+    aren't."""
+    names = [*PROVED, REPLICA]
     if folder is None:
-        told = subprocess.run([f"{TOP}/tools/built.py", *names], stdout=subprocess.PIPE, text=True, check=True).stdout
-        places = told.split("\n")
+        makers = [[f"{TOP}/tools/built.py", *PROVED], [f"{TOP}/tools/replica_library.py"]]
+        places = [line for maker in makers for line in subprocess.run(maker, stdout=subprocess.PIPE, text=True, check=True).stdout.splitlines()]
     else:
         places = [os.path.join(folder, name) for name in names]
     return {name: stripped(place) for name, place in zip(names, places)}
@@ -98,7 +101,8 @@ def found_entries(folder: str) -> List[Entry]:
 
 def program_entries(programs: Dict[str, bytes]) -> List[Entry]:
     """The programs, of which those in Python and amserve look for the rest where they themselves lie."""
-    entries = [Entry(PROVED[name], data, 0o755) for name, data in programs.items()]
+    entries = [Entry(PROVED[name], programs[name], 0o755) for name in PROVED]
+    entries += [Entry(f"lib/tiuvrokk/libtiuvrokk_replica.so.{version().partition('.')[0]}", programs[REPLICA])]
     entries += [Entry("lib/tiuvrokk/amserve", AMSERVE.encode(), 0o755), Entry("lib/tiuvrokk/VERSION", bytes_of("VERSION"))]
     entries += [Entry("lib/tiuvrokk/stay", bytes_of("tools/stay"), 0o755)]
     entries += [Entry(f"lib/tiuvrokk/{name}", bytes_of(name), 0o755) for name in PYTHON_PROGRAMS]

@@ -1,11 +1,13 @@
 """Replicas of a store, whose transactions an etcd cluster orders: the modules of ./amreplica.
 
     etcd          requests to the cluster, by whichever member answers
-    entries       blocks of the log as bytes, and as lines of the store
+    entries       blocks of the log as bytes
+    reader        which changes of the log count
     log           entries in one order, each counted once
     lines         what is known of lines before they are answered
-    store         the program behind the replica
-    transaction   a transaction in trials, and as a block of the log
+    library       the calls of the proved rules
+    store         the records, by these
+    transaction   a transaction before it is a block of the log
     ends          that the replica stands at the log's end
     replica       the log's blocks, into the store
     sessions      the lines of clients

@@ -9,10 +9,9 @@ from __future__ import annotations
 
 import struct
 import zlib
-from typing import Dict, List, NamedTuple, Tuple
+from typing import List, NamedTuple
 
-from .lines import LONGEST_SHORT, longest_answer, most_runs_of
-from .store import LOADS, PORTION
+from .lines import LONGEST_SHORT, MOST_ROWS, longest_answer, most_runs_of
 
 # The byte that a text begins with, which floors tell too, and that of a packed one. Entries were begun by a digit once.
 FORM, PACKED = 1, 2
@@ -23,6 +22,11 @@ SMALL, LONGEST_TEXT = 2048, 100_000_000
 # Bytes of a digest, and those that a block takes beside its lines, at most.
 DIGEST = 32
 BESIDE = 4 + 1 + 4 + DIGEST
+
+# LOADs and PUTs, and bytes of answers, of blocks that are taken at once, beside one block more.
+LOADS, ANSWERS = 20_000, 64_000_000
+# What is said of a text that isn't one.
+NONE_OF_BLOCKS = "is none whose blocks a replica takes"
 
 HEAD = struct.Struct(">BI")
 NUMBER = struct.Struct(">I")
@@ -44,14 +48,19 @@ class Block(NamedTuple):
     told: int = 0
     digest: bytes = b""
 
-    @classmethod
-    def of(cls, lines: List[bytes], told: int, digest: bytes) -> Block:
-        return cls(b"".join(line + b"\n" for line in lines), told, digest if told else b"")
+    def with_lines(self, lines: List[bytes]) -> Block:
+        """The same with further lines, which have no answer."""
+        return self._replace(body=b"".join([self.body, *(line + b"\n" for line in lines)]))
 
     @property
     def number(self) -> int:
         """How many lines there are."""
         return self.body.count(b"\n")
+
+    @property
+    def awaited(self) -> int:
+        """How many answers its client has yet to be told: to its lines, and to COMMIT."""
+        return self.number - self.told + 1
 
     @property
     def lines(self) -> List[bytes]:
@@ -63,9 +72,6 @@ class Block(NamedTuple):
     def longest_answers(self) -> int:
         # (RSCAN has it within)
         return sum(map(longest_answer, self.lines)) if b"SCAN " in self.body else LONGEST_SHORT * self.number
-
-    def may_leave_ghosts(self) -> bool:
-        return may_leave_ghosts(self.body)
 
 
 def text_of(blocks: List[Block]) -> bytes:
@@ -85,8 +91,10 @@ def entry_of(blocks: List[Block]) -> bytes:
 
 def unpacked(entry: bytes) -> bytes:
     """The text of an entry, which may be packed."""
-    if entry[:1] != bytes((PACKED,)):
+    if entry[:1] == bytes((FORM,)):
         return entry
+    if entry[:1] != bytes((PACKED,)):
+        raise NoEntry(of_other_form(entry))
     unpacking = zlib.decompressobj()
     try:
         text = unpacking.decompress(entry[1:], LONGEST_TEXT + 1)
@@ -98,68 +106,56 @@ def unpacked(entry: bytes) -> bytes:
         raise NoEntry("is cut short")
     if unpacking.unused_data:
         raise NoEntry("has bytes after its end")
+    if text[:1] != bytes((FORM,)):
+        raise NoEntry(of_other_form(text))
     return text
 
 
-class Batch:
-    """The blocks of an entry."""
-
-    def __init__(self, entry: bytes) -> None:
-        text = unpacked(entry)
-        count = self.head_of(text)
-        self.bodies: List[bytes] = []
-        self.told: Dict[int, Tuple[int, bytes]] = {}  # how many lines of a block were answered, and the digest, by its place
-        at, number_at = HEAD.size, NUMBER.unpack_from
-        try:
-            for place in range(count):
-                begin = at + 4
-                at = begin + number_at(text, at)[0]
-                # (the last line may have no LF)
-                self.bodies.append(text[begin:at] if text[at - 1] == 10 or begin == at else text[begin:at] + b"\n")
-                if text[at]:
-                    self.told[place] = self.told_at(text, at)
-                    at += BESIDE - 4
-                else:
-                    at += 1
-        except (struct.error, IndexError) as fault:
-            raise NoEntry("is cut short") from fault
-        if at < len(text):
-            raise NoEntry("has bytes after its end")
-
-    @staticmethod
-    def head_of(text: bytes) -> int:
-        """How many blocks there are."""
-        if text and text[0] in OLD_FORMS:
-            raise NoEntry("is of the form before this version's: docs/replicas.md says how such a log is taken over")
-        if text and text[0] != FORM:
-            raise NoEntry(f"is of form {text[0]}, which this version doesn't know")
-        if len(text) < HEAD.size:
-            raise NoEntry("is cut short")
-        count: int = HEAD.unpack_from(text)[1]
-        return count
-
-    @staticmethod
-    def told_at(text: bytes, at: int) -> Tuple[int, bytes]:
-        """What the flag there begins."""
-        if text[at] != 1:
-            raise NoEntry(f"has a flag that is {text[at]}, and neither 0 nor 1")
-        told: int = NUMBER.unpack_from(text, at + 1)[0]
-        if told == 0:
-            raise NoEntry("has a digest of no answers")
-        digest = text[at + 5:at + 5 + DIGEST]
-        if len(digest) < DIGEST:
-            raise NoEntry("is cut short")
-        return told, digest
-
-    def blocks(self) -> List[Block]:
-        nothing = 0, b""
-        return [Block(body, *self.told.get(place, nothing)) for place, body in enumerate(self.bodies)]
-
-    def lines(self) -> bytes:
-        """The lines of all, as the store takes them."""
-        return b"BEGIN\n%sCOMMIT\n" % b"COMMIT\nBEGIN\n".join(self.bodies) if self.bodies else b""
+def of_other_form(text: bytes) -> str:
+    """What a text is that isn't of this form."""
+    if not text:
+        return "has no bytes"
+    if text[0] in OLD_FORMS:
+        return "is of the form before this version's: docs/replicas.md says how such a log is taken over"
+    return f"is of form {text[0]}, which this version doesn't know"
 
 
-def is_small(lines: bytes) -> bool:
-    """Whether no store answers more to these lines than PORTION, and it makes no more runs than LOADS by them."""
-    return b"SCAN " not in lines and LONGEST_SHORT * lines.count(b"\n") <= PORTION and most_runs_of(lines) <= LOADS
+def count_of(text: bytes) -> int:
+    """How many blocks a text has."""
+    count: int = HEAD.unpack_from(text)[1]
+    return count
+
+
+def blocks_of(text: bytes) -> List[Block]:
+    """The blocks of a text, which the replica took or wrote itself."""
+    blocks: List[Block] = []
+    at = HEAD.size
+    try:
+        while at < len(text):
+            begin = at + NUMBER.size
+            end = begin + NUMBER.unpack_from(text, at)[0]
+            # (the last line may have no LF)
+            body = text[begin:end] if text[end - 1] == 10 or begin == end else text[begin:end] + b"\n"
+            told = NUMBER.unpack_from(text, end + 1)[0] if text[end] else 0
+            at = end + (BESIDE - NUMBER.size if told else 1)
+            blocks.append(Block(body, told, text[at - DIGEST:at] if told else b""))
+    except (struct.error, IndexError) as fault:
+        raise NoEntry(NONE_OF_BLOCKS) from fault
+    return blocks
+
+
+def portions(text: bytes) -> List[bytes]:
+    """The texts of entries that have the same blocks, one after another: so few that the store has runs for them, and that memory
+    has room for their answers."""
+    if MOST_ROWS * text.count(b"SCAN ") + LONGEST_SHORT * text.count(b"\n") <= ANSWERS and most_runs_of(text) <= LOADS:
+        return [text]
+    found: List[List[Block]] = [[]]
+    loads = size = 0
+    for block in blocks_of(text):
+        loads += block.loads()
+        size += block.longest_answers()
+        if found[-1] and (loads > LOADS or size > ANSWERS):
+            found.append([])
+            loads, size = block.loads(), block.longest_answers()
+        found[-1].append(block)
+    return list(map(text_of, found))

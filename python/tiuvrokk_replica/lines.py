@@ -8,20 +8,24 @@ from tiuvrokk_tools.verbs import STAGING, Kind, words_of
 
 # The longest line, without its LF.
 LONGEST = 4096
+# Milliseconds of the longest HOLD.
+LONGEST_HOLD = 60_000
 # Bytes that no answer goes beyond but rows.
 LONGEST_SHORT = 110
+# Those of an answer of most rows.
+MOST_ROWS = LONGEST_SHORT + 98 * 1000
 # The range of all keys.
 EVERYTHING = b"! " + b"~" * 32
 # Lines that write nothing, whatever they are answered.
 READS: FrozenSet[bytes] = frozenset(word.encode() for word in words_of(Kind.READS))
-# Lines that may make a run.
-LOADING = tuple(verb + b" " for verb in sorted(STAGING))
 # A request of HTTP: two words or more and a version; how those lines begin that may end so too.
 REQUEST = re.compile(rb"[\t\f\r ]*[^\t\f\r ]+[\t\f\r ]+[^\t\f\r ].*[\t\f\r ]http/[0-9][0-9.]*[\t\f\r ]*", re.IGNORECASE | re.DOTALL)
 # A key, a record, and lines that surely are operations: one that reads, those that write so many records, and all (whose
 # range has the least key first).
 KEY, VALUE = rb"[!-<>-~]{1,32}", rb"[!-~]{1,64}"
 READING = b"GET " + KEY
+# How lines begin that may make a run. (What stands before them in an entry may be any byte, and a key may end like such a word.)
+LOADING = {verb + b" ": re.compile(b"%b %b=" % (verb, KEY)) for verb in sorted(STAGING)}
 
 
 def writing(records: bytes) -> bytes:
@@ -34,8 +38,8 @@ OWN_FRONTS = (b"INS ", b"REP ", b"SET ", b"LOCK S ", b"LOCK X ")
 
 
 def most_runs_of(text: bytes) -> int:
-    """How many runs lines make at most."""
-    return sum(text.count(b"\n" + front) for front in LOADING) + text.startswith(LOADING)
+    """How many runs lines make at most, which may stand in the text of an entry."""
+    return sum(len(front.findall(text)) for word, front in LOADING.items() if word in text)
 
 
 def may_have_http(text: bytes) -> bool:
@@ -63,3 +67,13 @@ def longest_answer(line: bytes) -> int:
         count = line.rpartition(b" ")[2]
         return LONGEST_SHORT + 98 * (min(int(count), 1000) if count.isdigit() and len(count) < 5 else 0)
     return LONGEST_SHORT
+
+
+def answer_apart(line: bytes, is_active: bool) -> bytes:
+    """The answer to a line that is none of a transaction's, and that the session has no other answer to."""
+    word, _, count = line.partition(b" ")
+    if is_active:
+        return b"ERR ACTIVE"
+    if word == b"HOLD":
+        return b"OK" if 0 < int(count) <= LONGEST_HOLD else b"ERR LIMIT"
+    return b"ERR NOTX"

@@ -19,10 +19,11 @@ from __future__ import annotations
 
 import asyncio
 import json
-from typing import Callable, Dict, List, NamedTuple, Optional, Tuple
+from typing import Callable, List, NamedTuple, Optional, Tuple
 
 from .entries import FORM, NoEntry
 from .etcd import FAULTS, PAUSE, Etcd, Link, Message, Refused, Unreachable, decoded, encoded, put_of
+from .reader import Entry, Reader, WentBack
 
 # Bytes of a piece; etcd takes requests of 1.5 MB.
 PIECE = 1_000_000
@@ -32,10 +33,6 @@ SILENCE = 1.0
 
 class LeftBehind(Exception):
     """Entries that weren't read are gone: only a snapshot has what they did."""
-
-
-class WentBack(Exception):
-    """The cluster no longer has what was read of it."""
 
 
 class Event(NamedTuple):
@@ -48,19 +45,6 @@ class Event(NamedTuple):
     @property
     def value(self) -> bytes:
         return decoded(self.text)
-
-
-class Entry(NamedTuple):
-    """An entry of the log, by the events that made it. Who begins by a snapshot may lack the first ones of an entry that it has."""
-
-    name: str
-    pieces: List[Optional[Event]]
-
-    def text(self) -> bytes:
-        found = [piece.value for piece in self.pieces if piece]
-        if len(found) < len(self.pieces):
-            raise WentBack(f"pieces of the entry {self.name} weren't shown")
-        return b"".join(found)
 
 
 class Head(NamedTuple):
@@ -110,12 +94,11 @@ class Log:
         self.etcd, self.name = etcd, name
         self.tail = f"{name}/tail"
         self.floor = Event(0, f"{name}/floor", "")  # as far as was read
+        self.reader = Reader()
         self.generation = 0
         self.moved = asyncio.Event()  # the floor has
         self.seen = 0  # the revision up to which all was read
         self.head: Optional[Head] = None  # the newest that was read, where one was
-        self.pieces: Dict[str, Dict[str, Event]] = {}
-        self.oldest: Dict[str, int] = {}  # of the pieces whose head hasn't come: the first one's revision
 
     # Writing
 
@@ -139,35 +122,27 @@ class Log:
 
     # Reading
 
+    def begin_behind(self, told: Message) -> None:
+        """Reads on behind the snapshot that a floor names. That floor comes once more."""
+        self.floor = Event(int(told["since"]), self.floor.key, "")
+        self.reader.begin_behind(int(told["since"]), int(told["generation"]))
+        self.generation = self.reader.generation()
+
     def take(self, event: Event) -> Optional[Entry]:
         """An event, in its turn: the entry whose head it is."""
-        if event.key == self.floor.key:
-            if event.revision <= self.floor.revision:
-                return None  # who wrote the snapshot that was begun by had read it
+        if event.key != self.floor.key:
+            return self.reader.put(event.revision, event.key, event.value)
+        if event.revision > self.floor.revision:  # who wrote the snapshot that was begun by had read it
             told = told_by_floor(event.value)
-            if told["since"] != self.floor.revision:
-                raise WentBack("the floor before this one isn't the one that was read")
-            self.floor = event
-            self.generation = int(told["generation"])
-            self.pieces.clear()
-            self.oldest.clear()
+            writer = int(told["id"].rpartition("-")[2], 16)
+            self.reader.move(event.revision, int(told["since"]), int(told["generation"]), writer)
+            self.floor, self.generation = event, self.reader.generation()
             self.moved.set()
-            return None
-        if int(event.key.rpartition("/")[0].rpartition("/")[2]) != self.generation:
-            return None
-        name, piece = name_of(event.key)
-        if piece != "!":
-            self.pieces.setdefault(name, {})[piece] = event
-            self.oldest.setdefault(name, event.revision)
-            return None
-        pieces = self.pieces.pop(name, {})
-        self.oldest.pop(name, None)
-        count = max(map(int, pieces), default=-1) + 1
-        return Entry(name, [pieces.get(str(at)) for at in range(count)] + [event])
+        return None
 
     def first(self, revision: int) -> int:
         """Behind which revision a reader has to begin who has a snapshot of the given one: entries may have begun before."""
-        return min([revision] + [first - 1 for first in self.oldest.values()])
+        return self.reader.first_behind(revision)
 
     async def end(self) -> int:
         """The newest entry's revision, of what the cluster has agreed on by now."""

@@ -6,30 +6,30 @@ import asyncio
 import gc
 import os
 import re
-import shlex
 import signal
 import ssl
 import sys
-from typing import Any, Callable, Coroutine, Dict, List, NoReturn, Optional, Sequence
+from typing import Any, Callable, Coroutine, Dict, NoReturn, Optional
 
 from .entries import NoEntry
 from .etcd import Access, Etcd, Refused
-from .log import LeftBehind, Log, WentBack
+from .library import NoLibrary, StoreEnded, version
+from .log import LeftBehind, Log
+from .reader import WentBack
 from .replica import Replica
 from .sessions import Connection, Session
-from .store import Store, StoreEnded
+from .store import Store
 from .trace import Trace, TraceFault
 
 # Seconds between two lines of --stats.
 MINUTE = 60.0
-TOP = os.path.dirname(os.path.dirname(os.path.dirname(os.path.realpath(__file__))))
 DESCRIPTION = """A replica of a store, whose transactions an etcd cluster orders. It serves sessions over TCP at 127.0.0.1, by
 docs/protocol.md and docs/replicas.md, and writes `LISTEN p` with its port once it has all that the log has."""
 EPILOG = """status:
   0  ended by SIGTERM or SIGINT
   2  the words of the command line are wrong
-  3  the store ended, wants memory, or answered what isn't an answer: it may differ from those of the other replicas
-  4  the port can't be listened at, or a file can't be read or written
+  3  memory was refused to the store: it may differ from those of the other replicas
+  4  the port can't be listened at, or a file can't be read or written, or the library isn't there
   5  etcd refuses what the log needs
   6  etcd went back: it no longer has what this replica read of it, as after a restored backup
   7  the log has an entry that this version doesn't read, as those of the version before"""
@@ -70,12 +70,6 @@ def log_name(word: str) -> str:
     return word
 
 
-def version() -> str:
-    """That of all programs."""
-    with open(os.path.join(TOP, "VERSION"), encoding="ascii") as file:
-        return file.read().strip()
-
-
 def parser() -> argparse.ArgumentParser:
     words = argparse.ArgumentParser("amreplica", description=DESCRIPTION, epilog=EPILOG,
                                     formatter_class=argparse.RawDescriptionHelpFormatter)
@@ -84,8 +78,6 @@ def parser() -> argparse.ArgumentParser:
                        help="of 127.0.0.1; 0, the default, is any free one")
     words.add_argument("--log", type=log_name, default="tiuvrokk", metavar="NAME",
                        help="the store's name in the cluster (default: tiuvrokk)")
-    words.add_argument("--store", default=f"{shlex.quote(TOP)}/amserve alone --auto 16", metavar="COMMAND",
-                       help="what serves a session alone (default: amserve alone --auto 16)")
     words.add_argument("--reads", choices=("log", "local"), default="log",
                        help="log: who reads is told of the log's end; local: of a state that was it at most --limit seconds ago")
     words.add_argument("--limit", type=number_of(float, 0.1, 3600), default=10.0, metavar="S",
@@ -122,13 +114,11 @@ def access_of(asked: argparse.Namespace) -> Access:
 class Program:
     """One life of a replica."""
 
-    def __init__(self, asked: argparse.Namespace) -> None:
+    def __init__(self, asked: argparse.Namespace, access: Access, store: Store) -> None:
         self.asked, self.sessions, self.open = asked, 0, 0
         self.served: Dict[int, Session] = {}  # by their numbers
-        self.access = access_of(asked)
         self.end: "asyncio.Future[None]" = asyncio.get_running_loop().create_future()
-        self.store = Store(shlex.split(asked.store))
-        self.replica = Replica(Log(Etcd(asked.endpoints, self.access), asked.log), self.store, asked.snapshot, self.trace())
+        self.replica = Replica(Log(Etcd(asked.endpoints, access), asked.log), store, asked.snapshot, self.trace())
 
     def trace(self) -> Optional[Trace]:
         try:
@@ -156,6 +146,7 @@ class Program:
         finally:
             self.open -= 1
             self.served.pop(session.number, None)
+            session.transaction = None
             writer.close()
 
     def tell_stats(self) -> None:
@@ -188,8 +179,6 @@ class Program:
         task.add_done_callback(lambda done: None if done.cancelled() else self.fail(done.exception() or Ending(3, "it ended")))
 
     async def begin(self) -> None:
-        # The store may have to be built first, which takes minutes.
-        await asyncio.get_running_loop().run_in_executor(None, self.store.ask, [b"BEGIN", b"ABORT"])
         self.replica.failure.add_done_callback(lambda done: self.fail(done.exception() or Ending(3, "it ended")))
         life = await self.replica.start()
         try:
@@ -203,13 +192,10 @@ class Program:
         await life
 
 
-def leave(status: int, text: str, programs: Sequence[Program] = ()) -> NoReturn:
-    """Ends at once: clients are cut off, and the store reads its end, unless it has yet to answer, which it couldn't."""
+def leave(status: int, text: str) -> NoReturn:
+    """Ends at once: clients are cut off."""
     if text:
         print(f"amreplica: {text}", file=sys.stderr, flush=True)
-    for program in programs:
-        if program.store.awaited:
-            program.store.process.kill()
     os._exit(status)
 
 
@@ -221,34 +207,40 @@ def give_again(password: str) -> None:
     os.dup2(reader, sys.stdin.fileno())
 
 
-async def live(asked: argparse.Namespace) -> None:
-    program: List[Program] = []
+async def live(asked: argparse.Namespace, store: Store) -> None:
     try:
-        program.append(Program(asked))
-        await program[0].run()
+        access = access_of(asked)
+        await Program(asked, access, store).run()
     except Ending as ending:
-        leave(ending.status, str(ending), program)
-    except StoreEnded as fault:
-        leave(3, f"the store: {fault}", program)
+        leave(ending.status, str(ending))
+    except (StoreEnded, MemoryError) as fault:
+        leave(3, f"the store: {str(fault) or 'memory was refused'}")
     except TraceFault as fault:
-        leave(4, f"{asked.trace}: {fault}", program)
+        leave(4, f"{asked.trace}: {fault}")
     except Refused as fault:
-        leave(5, f"etcd: {fault}", program)
+        leave(5, f"etcd: {fault}")
     except WentBack as fault:
-        leave(6, f"etcd went back: {fault}", program)
+        leave(6, f"etcd went back: {fault}")
     except NoEntry as fault:
-        leave(7, f"the log: {fault}", program)
+        leave(7, f"the log: {fault}")
     except LeftBehind as fault:
         # Only a newer snapshot has what the log did meanwhile.
         print(f"amreplica: left behind: {fault}: beginning anew", file=sys.stderr, flush=True)
-        program[0].store.close()
-        give_again(program[0].access.password)
+        give_again(access.password)
         os.execv(sys.executable, [sys.executable] + sys.argv)
     except OSError as fault:
-        leave(4, str(fault), program)
+        leave(4, str(fault))
 
 
 def main() -> None:
     # (blocks are many, and go with no help: cycles are few)
     gc.set_threshold(100_000)
-    asyncio.run(live(parser().parse_args()))
+    asked = parser().parse_args()
+    try:
+        # (it may have to be built first, which takes minutes)
+        store = Store()
+    except StoreEnded as fault:
+        leave(3, f"the store: {fault}")
+    except (NoLibrary, OSError) as fault:
+        leave(4, str(fault))
+    asyncio.run(live(asked, store))

@@ -5,16 +5,18 @@ import asyncio
 import json
 import uuid
 from heapq import heappop, heappush
+from itertools import islice
 from operator import itemgetter
-from typing import Any, Callable, Dict, List, NamedTuple, Optional, Tuple
+from typing import Any, Callable, Dict, List, Optional, Tuple
 
 from . import snapshots
 from .ends import Ends
-from .entries import BESIDE, Batch, Block, NoEntry, entry_of, is_small, may_leave_ghosts
-from .log import Entry, Event, Log, News
-from .store import LOADS, PORTION, RUNS, Store, StoreEnded
+from .entries import BESIDE, Block, NoEntry, blocks_of, count_of, entry_of, portions, text_of, unpacked
+from .log import Event, Log, News
+from .reader import Entry
+from .store import Store, Trial
 from .trace import Trace
-from .transaction import CONFLICT, MOST_ANSWERS, UNKNOWN, UNREACHABLE, Digest, Transaction
+from .transaction import UNKNOWN, UNREACHABLE
 
 # Entries on their way at once: more of them make smaller ones, and were slower.
 ENTRIES = 1
@@ -34,19 +36,17 @@ Outcome = bytes
 
 def undone(block: Block, why: bytes) -> Outcome:
     """That of a block of which nothing is known to stand."""
-    return (why + b"\n") * (block.number - block.told + 1)
+    return (why + b"\n") * block.awaited
 
 
-def outcomes_of(answers: bytes, first: int) -> List[Outcome]:
-    """Those of blocks that committed, by the answers to all their lines, and the first one's number."""
-    # (parted so, each begins with the number of the commit before it and that of its transaction)
-    texts = (b"0\n" + answers).split(b"\nCOMMITTED ")[:-1]
-    return [b"%sCOMMITTED %d\n" % ((text + b"\n").split(b"\n", 2)[2], number) for number, text in enumerate(texts, first)]
-
-
-def spoken(answers: List[bytes]) -> bytes:
-    """Answers, each with its LF."""
-    return b"".join(answer + b"\n" for answer in answers)
+def outcomes_of(answers: bytes, blocks: List[Block], first: int) -> List[Outcome]:
+    """Those of an entry's blocks, by what their clients are told one after another, and the number of the first that committed."""
+    # (parted so, each begins with the number of the commit before it)
+    texts = (b"\n" + answers).split(b"\nCOMMITTED ")[:-1]
+    if len(texts) == len(blocks):
+        return [b"%sCOMMITTED %d\n" % ((text + b"\n").split(b"\n", 1)[1], number) for number, text in enumerate(texts, first)]
+    lines = iter(answers.split(b"\n"))
+    return [b"".join(b"%s\n" % line for line in islice(lines, block.awaited)) for block in blocks]
 
 
 class Waiting:
@@ -62,14 +62,6 @@ class Waiting:
         if not self.is_told:
             self.is_told = True
             self.tell(outcomes)
-
-
-class Guess(NamedTuple):
-    """What the one block of an entry on its way is answered, if no other entry comes before it: its trial is open."""
-
-    entry: str
-    answers: bytes
-    had_ghosts: bool
 
 
 class Replica:
@@ -88,7 +80,6 @@ class Replica:
         self.entries = 0
         self.queue: List[Waiting] = []
         self.on_way: Dict[str, List[Waiting]] = {}
-        self.landing = 0  # entries that came and whose outcomes the store is yet to tell
         self.tasks: "asyncio.Queue[asyncio.Task[None]]" = asyncio.Queue()  # that write, for `life` to look at their ends
         self.awaited = 0  # how many sessions wait, or were just told
         self.awaited_until = 0.0
@@ -101,6 +92,7 @@ class Replica:
         self.limit: Optional[asyncio.TimerHandle] = None
         self.flushes: List[Callable[[], None]] = []  # those of sessions that are being told something
         self.failure: "asyncio.Future[None]" = self.loop.create_future()  # of what the log's news did
+        self.keeps_up = False  # a step that merges or cleans will be done
         self.snapshot: Optional["asyncio.Task[None]"] = None
         self.has_begun = False  # all that the log had at the start was applied
 
@@ -155,7 +147,7 @@ class Replica:
     def hand_over(self) -> None:
         """What waits goes on its way, as far as there is room."""
         self.awaited = 0
-        while self.queue and len(self.on_way) + self.landing < ENTRIES:
+        while self.queue and len(self.on_way) < ENTRIES:
             size = count = 0
             while count < len(self.queue) and (count == 0 or size + self.queue[count].size <= ENTRY):
                 size += self.queue[count].size
@@ -165,9 +157,6 @@ class Replica:
             name = f"{self.name}-{self.entries}"
             self.on_way[name] = some
             self.write(name)
-            if count == 1 and len(some[0].blocks) == 1:
-                # (behind the first step of the task that writes)
-                self.loop.call_soon(self.guess, name)
 
     def hand_over_soon(self) -> None:
         """Where the next session doesn't come soon."""
@@ -188,20 +177,6 @@ class Replica:
         task = asyncio.ensure_future(self.log.write(name, entry, lambda: name not in self.on_way))
         task.add_done_callback(self.tasks.put_nowait)
 
-    def guess(self, name: str) -> None:
-        """Tries the one block of an entry that is on its way, where the store has nothing else to do."""
-        if name not in self.on_way or self.store.holder is not None or self.failure.done():
-            return
-        block = self.on_way[name][0].blocks[0]
-        if block.told or block.longest_answers() > PORTION or self.store.runs + block.loads() > RUNS:
-            return
-        try:
-            answers = self.store.free_text(b"BEGIN\n" + block.body, block.number + 1)
-            self.store.holder = Guess(name, answers.partition(b"\n")[2], self.store.has_ghosts)
-            self.store.has_ghosts = True
-        except StoreEnded as fault:
-            self.failure.set_exception(fault)
-
     # The log's entries, into the store
 
     def hear(self, news: News) -> None:
@@ -214,26 +189,6 @@ class Replica:
             self.ends.reach(news.revision)
         except Exception as fault:
             self.failure.set_exception(fault)
-
-    def watch_store(self) -> None:
-        """Has the store's answers taken as they come, and its end noticed."""
-        loop, store = self.loop, self.store
-
-        def watch() -> None:
-            out = store.out
-            loop.add_reader(out, hear)
-            store.on_end = lambda: loop.remove_reader(out)
-
-        def hear() -> None:
-            try:
-                store.hear()
-            except Exception as fault:
-                store.on_end()
-                if not self.failure.done():
-                    self.failure.set_exception(fault)
-
-        store.on_begin = watch
-        watch()
 
     def take(self, event: Event) -> None:
         """An event of the log, in its turn."""
@@ -248,7 +203,6 @@ class Replica:
         self.applied = event.revision
         if self.trace:
             self.trace.flush()
-        self.store.flush()
         if self.is_snapshot_due() and (self.snapshot is None or self.snapshot.done()):
             self.snapshot = asyncio.ensure_future(snapshots.write(self))
             self.snapshot.add_done_callback(self.tasks.put_nowait)
@@ -260,7 +214,6 @@ class Replica:
 
     def tell(self, waitings: List[Waiting], outcomes: List[Outcome]) -> None:
         """Tells each session of an entry what became of its blocks. What waits goes on its way, with what they bring next."""
-        self.landing -= 1
         is_worth = self.came >= self.told * WORTH
         if not is_worth:
             self.hand_over()
@@ -283,117 +236,58 @@ class Replica:
 
     def apply_entry(self, entry: Entry) -> None:
         """Takes its blocks, and has what they come to be told where they are this replica's sessions'."""
-        outcomes = self.guessed(entry.name)
         waitings = self.on_way.pop(entry.name, [])
-        self.landing += bool(waitings)
-        if not outcomes:
-            try:
-                batch = Batch(entry.text())
-            except NoEntry as fault:
-                raise NoEntry(f"the entry {entry.name} {fault}") from fault
-            lines = b"" if self.trace or batch.told else batch.lines()
-            if lines and is_small(lines):
-                self.send_all(lines, len(batch.bodies), waitings)
-                return
-            outcomes = self.apply(batch.blocks())
-        if waitings:
-            self.tell(waitings, outcomes)
-
-    def send_all(self, lines: bytes, blocks: int, waitings: List[Waiting]) -> None:
-        """Blocks that commit, whatever their lines are answered. These answers aren't waited for."""
-
-        def take(answers: bytes) -> None:
-            self.check_ends(answers, blocks)
-            if waitings:
-                self.tell(waitings, outcomes_of(answers, first))
-
         first = self.commits + 1
-        self.commits += blocks
-        self.blocks += blocks
-        self.store.send_free(lines, lines.count(b"\n"), take)
-        self.store.has_ghosts = self.store.has_ghosts or may_leave_ghosts(lines)
+        try:
+            text = unpacked(entry.text())
+            answers = self.take_text(text, bool(waitings))
+        except NoEntry as fault:
+            raise NoEntry(f"the entry {entry.name} {fault}") from fault
+        self.commits = self.store.commits
+        committed = self.commits + 1 - first
+        self.blocks += committed
+        self.conflicts += count_of(text) - committed
+        self.keep_up_soon()
+        if waitings:
+            self.tell(waitings, outcomes_of(answers, [block for waiting in waitings for block in waiting.blocks], first))
 
-    def apply(self, blocks: List[Block]) -> List[Outcome]:
-        """Blocks in their order. Those that were told nothing can't be contradicted: as many as there is room for go at once."""
-        outcomes: List[Outcome] = []
-        while blocks:
-            count = loads = size = 0
-            while count < len(blocks) and not blocks[count].told and loads < LOADS and size < PORTION:
-                loads += blocks[count].loads()
-                size += blocks[count].longest_answers()
-                count += 1
-            if count > 1 or count == 1 and size <= PORTION:
-                outcomes += self.apply_untold(blocks[:count])
-            else:
-                count = 1
-                outcomes.append(self.apply_one(blocks[0]))
-            blocks = blocks[count:]
-        return outcomes
-
-    def guessed(self, name: str) -> List[Outcome]:
-        """The outcome of an entry whose trial is open, so that nothing has come before it."""
-        guess = self.store.holder
-        if not isinstance(guess, Guess) or guess.entry != name:
-            return []
-        self.store.holder, self.store.has_ghosts = None, guess.had_ghosts
-        return [self.commit_later(self.on_way[name][0].blocks[0], guess.answers)]
-
-    def apply_untold(self, blocks: List[Block]) -> List[Outcome]:
-        lines = b"".join(b"BEGIN\n%sCOMMIT\n" % block.body for block in blocks)
-        answers = self.store.free_text(lines, lines.count(b"\n"))
-        self.check_ends(answers, len(blocks))
-        outcomes = outcomes_of(answers, self.commits + 1)
-        self.commits += len(blocks)
-        self.blocks += len(blocks)
-        self.store.has_ghosts = self.store.has_ghosts or may_leave_ghosts(lines)
+    def take_text(self, text: bytes, is_own: bool) -> bytes:
+        """Takes an entry's blocks: what their clients are told, if one is this replica's session."""
         if self.trace:
-            for block, outcome in zip(blocks, outcomes):
-                self.trace.write(block.lines, outcome)
-        return outcomes
+            return b"".join(self.take_traced(block, self.trace) for block in blocks_of(text))
+        if is_own:
+            return b"".join(map(self.store.take, portions(text)))
+        for portion in portions(text):
+            self.store.apply(portion)
+        return b""
 
-    def check_ends(self, answers: bytes, blocks: int) -> None:
-        """That so many blocks committed, by the answers to all their lines."""
-        if answers.count(b"\nCOMMITTED ") != blocks:
-            raise self.store.ended("a COMMIT was answered otherwise")
+    def take_traced(self, block: Block, trace: Trace) -> bytes:
+        """Takes a block, and stores it with all its answers, if it commits: those that were told before come again by a trial."""
+        told = Trial(self.store).ask(block.lines[:block.told])
+        commits = self.store.commits
+        answers = self.store.take(text_of([block]))
+        if self.store.commits > commits:
+            trace.write(block.lines, [*told, *answers.split(b"\n")])
+        return answers
 
-    def apply_one(self, block: Block) -> Outcome:
-        """Its lines are taken again: where the answered ones are answered as told it commits, else it aborts. Those of a trial
-        that is still open stand there just so."""
-        if not self.trace and isinstance(self.store.holder, Transaction) and self.store.holder.is_all_of(block):
-            self.store.holder = None
-            return self.commit_later(block, b"")
-        told, size, lines = Digest(), 0, block.lines
-        answers: List[bytes] = []
-        for number, answer in enumerate(self.store.answers([b"BEGIN", *lines]), -1):
-            if 0 <= number < block.told:
-                told.add(lines[number], answer)
-                size += len(answer) + 1
-                if size > MOST_ANSWERS:
-                    break
-            if number >= block.told or self.trace and number >= 0:
-                answers.append(answer)
-        if not block.told or told.value() == block.digest:
-            return self.commit_later(block, spoken(answers))
-        self.store.ask_later(b"ABORT", lambda answer: None)
-        self.store.has_ghosts = True
-        self.conflicts += 1
-        return undone(block, CONFLICT)
+    # Upkeep
 
-    def commit_later(self, block: Block, answers: bytes) -> Outcome:
-        """Its lines stand in the store: the COMMIT goes with what is asked next. Of the answers those that weren't told before
-        are given, or all for a trace."""
-        self.store.ask_later(b"COMMIT", self.check_end)
-        self.commits += 1
-        self.blocks += 1
-        self.store.has_ghosts = self.store.has_ghosts or block.may_leave_ghosts()
-        if self.trace:
-            self.trace.write(block.lines, answers)
-            answers = answers.split(b"\n", block.told)[-1]
-        return b"%sCOMMITTED %d\n" % (answers, self.commits)
+    def keep_up_soon(self) -> None:
+        """Has the store merge what was read and clean what was deleted, between all else, until nothing is left."""
+        if not self.keeps_up:
+            self.keeps_up = True
+            self.loop.call_soon(self.keep_up)
 
-    def check_end(self, end: bytes) -> None:
-        if not end.startswith(b"COMMITTED "):
-            raise self.store.ended(f"COMMIT was answered {end.decode().strip()}")
+    def keep_up(self) -> None:
+        """A step of that."""
+        self.keeps_up = False
+        if self.failure.done() or self.store.is_closed:
+            return
+        try:
+            if self.store.keep_up():
+                self.keep_up_soon()
+        except Exception as fault:
+            self.failure.set_exception(fault)
 
     # Life
 
@@ -408,7 +302,6 @@ class Replica:
 
     async def start(self) -> "asyncio.Task[None]":
         """The newest snapshot, and all that the log has by now; the task that goes on so."""
-        self.watch_store()
         after = await snapshots.read(self)
         if self.trace:
             self.trace.begin()

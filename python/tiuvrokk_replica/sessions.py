@@ -26,7 +26,7 @@ WRITES = re.compile(
 AROUND = len(b"BEGIN\nCOMMIT\n")
 # Bytes of answers that a client hasn't read, and sendings whose ends aren't known, beyond which its lines wait.
 UNREAD, MOST_FLYING = 1 << 16, 100
-BEGUN = re.compile(rb"^BEGUN [0-9]+$", re.MULTILINE)
+ENDS = (b"BEGIN", b"COMMIT")
 # Lines that end a transaction, or that don't belong to it.
 APART = (b"QUIT", b"ABORT", b"SEEN", b"WHO")
 MAINTENANCE = (b"MERGE ", b"CLEAN ", b"END ")
@@ -245,7 +245,8 @@ class Session:
         elif END.fullmatch(line) and int(line[4:]) < 1 << 64:
             return self.end(int(line[4:]))
         else:
-            self.out += self.replica.store.free([line])
+            # (a line within a transaction merges or cleans, or is faulty)
+            self.out.append(self.replica.store.answer_outside(line))
         return True
 
     def who(self) -> bytes:
@@ -277,6 +278,7 @@ class Session:
             return
         elif transaction.only_reads():
             self.out.append(b"COMMITTED %d" % transaction.commits)
+            self.replica.keep_up_soon()
         else:
             block = transaction.block()
             self.out.append(block)
@@ -331,15 +333,23 @@ class Session:
         found = READS_AHEAD.match(text) if self.transaction is None else None
         if not found or not await self.is_new():
             return text
-        lines = found.group()
-        answers = self.replica.store.free_text(lines.replace(b"\nCOMMIT\n", b"\nABORT\n"), lines.count(b"\n"))
-
-        def number(_: object) -> bytes:
-            self.begun += 1
-            return b"BEGUN %d" % self.begun
-
-        self.flush(BEGUN.sub(number, answers).replace(b"\nABORTED\n", b"\nCOMMITTED %d\n" % self.replica.commits))
+        self.flush(self.read(found.group()))
         return text[found.end():]
+
+    def read(self, text: bytes) -> bytes:
+        """The answers to transactions that read, which are those of one state."""
+        lines = text.split(b"\n")[:-1]
+        found = iter(self.replica.store.looks([line for line in lines if line not in ENDS]))
+        self.replica.keep_up_soon()
+        answers: List[bytes] = []
+        committed = b"COMMITTED %d" % self.replica.commits
+        for line in lines:
+            if line == b"BEGIN":
+                self.begun += 1
+                answers.append(b"BEGUN %d" % self.begun)
+            else:
+                answers.append(committed if line == b"COMMIT" else next(found))
+        return b"".join([answer + b"\n" for answer in answers])
 
 
 class Connection(asyncio.StreamReaderProtocol):

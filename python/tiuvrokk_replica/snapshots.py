@@ -18,8 +18,9 @@ from typing import TYPE_CHECKING, Dict, List, NamedTuple, Optional, Tuple
 
 from .entries import FORM
 from .etcd import Message, Refused, decoded, deletion_of, encoded, put_of
+from .library import StoreEnded
 from .log import Event, Log, told_by_floor
-from .store import StoreEnded, runs_of
+from .store import runs_of
 from .trace import TraceFault
 
 if TYPE_CHECKING:
@@ -165,10 +166,10 @@ async def read(replica: Replica) -> int:
         await asyncio.sleep(0.2)  # another has taken its place
     if replica.trace:
         raise TraceFault("the log's beginning is in a snapshot, so no run can be stored")
-    replica.store.load([zlib.decompress(found.pieces[digest]) for digest in told["pieces"]])
+    replica.store.restore([zlib.decompress(found.pieces[digest]) for digest in told["pieces"]], told["commits"])
     replica.commits, replica.applied = told["commits"], told["revision"]
     # The floor's own event comes once more, behind that.
-    log.floor, log.generation = Event(int(told["since"]), log.floor.key, ""), int(told["generation"]) - 1
+    log.begin_behind(told)
     return min(int(told["after"]), int(kvs[0]["mod_revision"]) - 1)
 
 

@@ -1,252 +1,183 @@
-"""The store behind a replica: a program that reads lines and answers each with one, which nobody else writes to.
+"""The store behind a replica, and the transactions that are tried on it: the proved rules, by their library.
 
-Lines may be sent whose answers nobody waits for: they are taken as they come, before those of any later lines.
-
-An open trial, a transaction that will be aborted, has a holder; it ends once anybody else needs the store."""
+Whatever a transaction is tried to do, the replica keeps nothing of it: its block does it, once that comes in the log."""
 from __future__ import annotations
 
-import os
-import re
-import select
-import subprocess
-from collections import deque
-from fcntl import fcntl
-from typing import Callable, Deque, Iterator, List, NamedTuple, Optional
+import ctypes
+from ctypes import byref
+from typing import Dict, List, Optional
 
-from .lines import EVERYTHING, longest_answer, most_runs_of
+from .entries import NONE_OF_BLOCKS, Block, NoEntry, blocks_of, may_leave_ghosts, text_of
+from .library import BAD_LINE, NO_ENTRY, Call, Handle, StoreEnded, loaded, must
+from .lines import EVERYTHING, answer_apart, most_runs_of
 
-# A line that is no answer, or one that depends on this store's own past, and not on the log. A store that has one session answers
-# nothing BUSY.
-WRONG = re.compile(
-    rb"\n(?!(?:OK|BEGUN|COMMITTED|VAL|NONE|ROWS|EXISTS|MISSING|DELETED|NOMARK|ABORTED|MOVED|DONE|IDLE|CLEANED"
-    rb"|ERR(?! (?:MEMORY|FULL|RUNS)\n))[ \n]|\Z)"
-)
-# Bytes that are written at once, and read.
-ROOM, READ = 60_000, 1 << 16
-SET_PIPE_SIZE = 1031  # fcntl's F_SETPIPE_SZ, which Python has from 3.10 on
-# Bytes of answers that are asked for at once.
-PORTION = 4_000_000
-# Runs that a store may make before it is made anew. It has 65,535; those of aborted LOADs and PUTs count, and slow it down.
+# Runs that a store may make before it is made anew. It has 65,535; those of LOADs and PUTs that were tried count, and slow it down.
 RUNS = 20_000
-# LOADs and PUTs that are asked for at once: as many runs of the store are left at least.
-LOADS = 1_000
 # Most records, and bytes of lines, of a run that is loaded.
 RUN_RECORDS, RUN_BYTES = 65_000, 900_000
-CLEAN = b"CLEAN " + EVERYTHING + b" 64"
-
-
-class StoreEnded(Exception):
-    """The store may differ from those of the other replicas."""
-
-
-class Awaited(NamedTuple):
-    """Answers to so many lines, and who takes them, each with its LF."""
-
-    lines: int
-    take: Callable[[bytes], object]
+# Operations of a transaction.
+OPERATIONS = 4096
+# What is wrong with a line, whatever its place.
+FAULTS = (b"ERR SYNTAX", b"ERR RANGE", b"ERR LONG")
+MERGE, CLEAN = b"MERGE 64", b"CLEAN " + EVERYTHING + b" 64"
+# Bytes of an answer that most fit into.
+ROOM = 1 << 16
 
 
 class Store:
-    """The program, by its pipes."""
+    """The records of a replica, and how many blocks of the log committed."""
 
-    def __init__(self, command: List[str]) -> None:
-        self.command = command
-        self.holder: Optional[object] = None  # whose trial is open
-        self.has_ghosts = False  # that trials and deletions may have left
-        self.on_begin: Callable[[], object] = lambda: None
-        self.on_end: Callable[[], object] = lambda: None
-        self.owed = b""  # lines that go with the next ones
-        self.awaited: Deque[Awaited] = deque()  # of what was sent, and of these
-        self.parts: List[bytes] = []  # of the first ones' answers, as far as they came, and how many there are
-        self.count = 0
-        self.fault = ""  # why nothing more is asked
-        self.begin()
-
-    def ended(self, fault: str) -> StoreEnded:
-        """What is raised where the store may differ from the others'. Nobody is told anything by it from now on."""
-        self.fault = self.fault or fault
-        return StoreEnded(self.fault)
-
-    def begin(self) -> None:
-        """Starts the program, with no records."""
+    def __init__(self) -> None:
+        self.calls: Dict[str, Call] = loaded("tvk_replica_")
+        self.handle, self.length, self.copied = Handle(), ctypes.c_uint64(), ctypes.c_uint64()
+        self.at, self.length_at, self.copied_at = byref(self.handle), byref(self.length), byref(self.copied)
+        self.room = ctypes.create_string_buffer(ROOM)
         self.runs = 0
-        try:
-            # In a session of its own: a terminal's signals are the replica's, and the program ends by its input.
-            self.process = subprocess.Popen(self.command, stdin=subprocess.PIPE, stdout=subprocess.PIPE, start_new_session=True)
-        except OSError as fault:
-            raise self.ended(str(fault)) from fault
-        assert self.process.stdin is not None and self.process.stdout is not None
-        self.into, self.out = self.process.stdin.fileno(), self.process.stdout.fileno()
-        for end in (self.into, self.out):
-            try:
-                fcntl(end, SET_PIPE_SIZE, 1 << 20)
-            except OSError:
-                pass  # a smaller one serves too
-        os.set_blocking(self.into, False)
-        self.reading, self.both = select.poll(), select.poll()
-        for poll in (self.reading, self.both):
-            poll.register(self.out, select.POLLIN)
-        self.both.register(self.into, select.POLLOUT)
-        self.on_begin()
+        self.has_ghosts = False  # that trials and deletions may have left
+        self.trial: Optional[Trial] = None  # that is open in it
+        must(self.calls["open"](self.at))
 
-    def ask(self, lines: List[bytes]) -> List[bytes]:
-        """The answers to some lines, whatever trial is open."""
-        return self.ask_text(b"".join(line + b"\n" for line in lines), len(lines)).split(b"\n")[:-1]
+    def answer(self) -> bytes:
+        """The answer to the last call."""
+        length = self.length.value
+        room = self.room if length <= ROOM else ctypes.create_string_buffer(length)
+        must(self.calls["answer"](self.at, ctypes.c_uint64(0), room, ctypes.c_size_t(length), self.copied_at))
+        return ctypes.string_at(room, length)
 
-    def ask_text(self, text: bytes, count: int) -> bytes:
-        """The answers to so many lines. Each line has its LF, and so has each answer."""
-        found: List[bytes] = []
-        self.send(text, count, found.append)
-        while count and not found:
-            self.read()
-        return b"".join(found)
+    # Entries
 
-    def ask_later(self, line: bytes, take: Callable[[bytes], object]) -> None:
-        """A line that goes with the next lines, or with `flush`."""
-        self.owed += line + b"\n"
-        self.awaited.append(Awaited(1, take))
+    def take(self, text: bytes) -> bytes:
+        """Takes the text of an entry in its turn: what the clients of its blocks are told."""
+        self.before_entry(text)
+        self.after_entry(self.calls["take"](self.at, text, ctypes.c_size_t(len(text)), self.length_at))
+        return self.answer()
 
-    def flush(self) -> None:
-        if self.owed:
-            self.send(b"", 0, lambda answers: None)
+    def apply(self, text: bytes) -> None:
+        """Takes the text of an entry in its turn, of whose blocks no client is to be told."""
+        self.before_entry(text)
+        self.after_entry(self.calls["apply"](self.at, text, ctypes.c_size_t(len(text))))
 
-    def send(self, text: bytes, count: int, take: Callable[[bytes], object]) -> None:
-        """So many lines, whose answers are taken once they come."""
-        text, self.owed = self.owed + text, b""
-        self.runs += most_runs_of(text)
-        if count:
-            self.awaited.append(Awaited(count, take))
-        self.write(text)
-
-    def write(self, text: bytes) -> None:
-        """Lines, while answers are read as they come."""
-        if self.fault:
-            raise StoreEnded(self.fault)
-        left = memoryview(text)
-        while left:
-            try:
-                left = left[os.write(self.into, left[:ROOM]):]
-            except BlockingIOError:
-                pass
-            except OSError as fault:
-                raise self.ended(str(fault)) from fault
-            if left and self.out in dict(self.both.poll()):
-                self.read()
-
-    def hear(self) -> None:
-        """Answers, as far as some have come."""
-        if self.reading.poll(0):
-            self.read()
-
-    def read(self) -> None:
-        """Waits for answers, and has them taken."""
-        if self.fault:
-            raise StoreEnded(self.fault)
-        try:
-            data = os.read(self.out, READ)
-        except OSError as fault:
-            raise self.ended(str(fault)) from fault
-        if not data:
-            raise self.ended("it ended")
-        while data:
-            if not self.awaited:
-                raise self.ended("it answered more than it was asked")
-            missing = self.awaited[0].lines - self.count
-            lines = data.count(b"\n")
-            if lines < missing:
-                self.parts.append(data)
-                self.count += lines
-                return
-            rest = data.split(b"\n", missing)[missing] if lines > missing or data[-1] != 10 else b""
-            self.parts.append(data[:len(data) - len(rest)])
-            data = rest
-            self.take()
-
-    def take(self) -> None:
-        """The first answers are whole."""
-        answers, self.parts, self.count = b"".join(self.parts), [], 0
-        wrong = WRONG.search(b"\n" + answers)
-        if wrong:
-            answer = answers[wrong.start():].split(b"\n", 1)[0]
-            raise self.ended(f"it answered {answer[:100].decode('ascii', 'replace')}")
-        self.awaited.popleft().take(answers)
-
-    def free(self, lines: List[bytes]) -> List[bytes]:
-        """The answers to some lines, once no trial is open."""
-        return self.free_text(b"".join(line + b"\n" for line in lines), len(lines)).split(b"\n")[:-1]
-
-    def free_text(self, text: bytes, count: int) -> bytes:
-        """The answers to so many lines, as `ask_text` has them, once no trial is open."""
-        self.end_trial()
-        return self.ask_text(text, count)
-
-    def send_free(self, text: bytes, count: int, take: Callable[[bytes], object]) -> None:
-        """Lines as `send` has them, once no trial is open."""
-        self.end_trial()
-        self.send(text, count, take)
-
-    def end_trial(self) -> None:
-        """No trial is open once the next lines come, and what trials left is cleaned."""
-        if self.holder is not None:
-            self.holder = None
-            self.ask_later(b"ABORT", lambda answer: None)
-        if self.has_ghosts:
-            self.has_ghosts = False
-            self.ask_later(CLEAN, self.cleaned)
-        if self.runs > RUNS:
+    def before_entry(self, text: bytes) -> None:
+        runs = most_runs_of(text)
+        if self.runs + runs > RUNS:
             self.renew()
+        self.runs += runs
+        self.has_ghosts = self.has_ghosts or may_leave_ghosts(text)
+        self.trial = None
 
-    def cleaned(self, answer: bytes) -> None:
-        self.has_ghosts = self.has_ghosts or answer == b"CLEANED 64\n"
+    def after_entry(self, status: int) -> None:
+        if status == NO_ENTRY:
+            raise NoEntry(NONE_OF_BLOCKS)
+        must(status)
 
-    def answers(self, lines: List[bytes]) -> Iterator[bytes]:
-        """The answers to some lines, one by one, once no trial is open. No more of them is held than PORTION and one more."""
-        portion: List[bytes] = []
-        size, ask = 0, self.free
-        for line in lines:
-            portion.append(line)
-            size += longest_answer(line)
-            if size > PORTION:
-                yield from ask(portion)
-                portion, size, ask = [], 0, self.ask
-        yield from ask(portion)
+    @property
+    def commits(self) -> int:
+        """How many blocks of the log committed."""
+        must(self.calls["commits"](self.at, self.length_at))
+        return self.length.value
+
+    # What no answer changes by
+
+    def keep_up(self) -> bool:
+        """Merges what was read, and lets places go that transactions left, a step each; whether more is to be done."""
+        moved = self.upkeep(MERGE)
+        if self.has_ghosts:
+            self.has_ghosts = self.upkeep(CLEAN) == b"CLEANED 64\n"
+        return self.has_ghosts or moved != b"IDLE\n"
+
+    def upkeep(self, line: bytes) -> bytes:
+        """The answer to a line that merges or cleans; nothing, where it is another one."""
+        self.trial = None
+        status = self.calls["keep_up"](self.at, line, ctypes.c_size_t(len(line)), self.length_at)
+        if status == BAD_LINE:
+            return b""
+        must(status)
+        return self.answer()
+
+    def answer_outside(self, line: bytes) -> bytes:
+        """The answer to a line where no transaction is active."""
+        kept_up = self.upkeep(line)
+        if kept_up:
+            return kept_up[:-1]
+        answer = self.look(line)
+        return answer if answer in FAULTS else b"ERR NOTX" if answer else answer_apart(line, False)
 
     def renew(self) -> None:
-        """A new program with the same records, where few runs are left to this one. No transaction is active."""
-        records, old = self.records(), self.process
-        self.on_end()
-        self.begin()
-        old.kill()
-        old.wait()
-        self.load(runs_of(records))
+        """Another store with the same records, before this one is out of runs."""
+        must(self.calls["renew"](self.at))
+        self.runs, self.has_ghosts, self.trial = 0, False, None
+
+    # Snapshots
 
     def records(self) -> List[bytes]:
         """All records, `k=v`, by rising key, of one state."""
         found: List[bytes] = []
         low = b"!"
-        if self.holder is not None:
-            self.holder = None
-            self.ask([b"ABORT"])
         while True:
-            rows = self.ask([b"BEGIN", b"SCAN %s %s 1000" % (low, b"~" * 32), b"ABORT"])[1].split(b" ")
-            if rows[0] != b"ROWS":
-                raise self.ended(f"SCAN was answered {rows[0].decode()}")
+            rows = self.look(b"SCAN %s %s 1000" % (low, b"~" * 32)).split(b" ")
             found += rows[3:] if found else rows[2:]
             if int(rows[1]) < 1000:
                 return found
             low = found[-1].partition(b"=")[0]
 
-    def load(self, texts: List[bytes]) -> None:
-        """Loads runs, each of which is lines."""
-        for text in texts:
-            answers = self.ask([b"BEGIN", *text.split(b"\n")[:-1], b"COMMIT"])
-            if set(answers[1:-1]) != {b"OK"} or not answers[-1].startswith(b"COMMITTED "):
-                raise self.ended("records can't be loaded")
+    def look(self, line: bytes) -> bytes:
+        """What a transaction that has no other line is answered."""
+        return self.looks([line])[0]
+
+    def looks(self, lines: List[bytes]) -> List[bytes]:
+        """The same, of some lines each. They are tried together, as many as a transaction may have."""
+        parts = [lines[at:at + OPERATIONS] for at in range(0, len(lines), OPERATIONS)]
+        return [answer for part in parts for answer in Trial(self).ask(part)]
+
+    def restore(self, pieces: List[bytes], commits: int) -> None:
+        """Takes the records of a snapshot into a store that has none: lines that load a run each, written after so many commits."""
+        for piece in pieces:
+            self.apply(text_of([Block(piece)]))
+        if self.commits != len(pieces):
+            raise StoreEnded("the records of a snapshot can't be loaded")
+        must(self.calls["restore"](self.at, ctypes.c_uint64(commits)))
+
+    @property
+    def is_closed(self) -> bool:
+        return not self.handle.at
 
     def close(self) -> None:
-        self.on_end()
-        self.process.kill()
-        self.process.wait()
+        self.calls["close"](self.at)
+
+
+class Trial:
+    """A transaction before it is a block: its lines that were tried."""
+
+    def __init__(self, store: Store) -> None:
+        self.handle, self.store = Handle(), store
+        self.runs = 0  # that its lines make
+        self.at = byref(self.handle)
+        must(store.calls["begin"](self.at))
+
+    def ask(self, lines: List[bytes]) -> List[bytes]:
+        """Tries lines one after another: their answers. That is empty where a line is none of a transaction."""
+        store = self.store
+        if store.runs > RUNS:
+            store.renew()
+        text = b"\n".join([*lines, b""])
+        runs = most_runs_of(text)
+        self.runs += runs
+        # (where its trial isn't open any more its earlier lines are taken again)
+        store.runs += runs if store.trial is self else self.runs
+        store.trial = self
+        must(store.calls["try_lines"](store.at, self.at, text, ctypes.c_size_t(len(text)), store.length_at))
+        return store.answer().split(b"\n")[:-1]
+
+    def block(self) -> Block:
+        """The transaction as a block. No more is asked of it."""
+        store = self.store
+        store.trial = None
+        must(store.calls["block"](store.at, self.at, store.length_at))
+        return blocks_of(store.answer())[0]
+
+    def __del__(self) -> None:
+        if self.handle.at:
+            self.store.calls["end"](self.at)
 
 
 def runs_of(records: List[bytes]) -> List[bytes]:

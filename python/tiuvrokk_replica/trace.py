@@ -53,12 +53,12 @@ class Trace:
         self.file.write("TRACE 3\n")
         self.file.flush()
 
-    def write(self, lines: List[bytes], answers: bytes) -> None:
-        """The next transaction that committed: its lines, and a text that begins with the answers to them."""
+    def write(self, lines: List[bytes], answers: List[bytes]) -> None:
+        """The next transaction that committed: its lines, and the answers to them, which others may follow."""
         self.number += 1
         rows = [f"BEGIN | BEGUN {self.number}"]
         staged: List[bytes] = []
-        for line, answer in zip(lines, answers.split(b"\n")):
+        for line, answer in zip(lines, answers):
             word, *fields = line.split(b" ")
             if answer in NO_STEP:
                 continue
