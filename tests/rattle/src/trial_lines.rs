@@ -199,34 +199,18 @@ fn transactions_take_turns(rt: HostRuntime) -> Result<(), Fail> {
             "NONE"
         );
     }
-    assert_eq!(rt;
-        answer(alloc, &mut first, &mut replica, b"SET ant 2")?,
-        "OK"
-    );
-    assert_eq!(rt;
-        answer(alloc, &mut second, &mut replica, b"STAGE bee=2")?,
-        "staged"
-    );
-    assert_eq!(rt;
-        answer(alloc, &mut first, &mut replica, b"GET ant")?,
-        "VAL 2"
-    );
-    assert_eq!(rt;
-        answer(alloc, &mut second, &mut replica, b"GET ant")?,
-        "NONE"
-    );
-    assert_eq!(rt;
-        answer(alloc, &mut second, &mut replica, b"LOAD cat=1")?,
-        "OK"
-    );
-    assert_eq!(rt;
-        answer(alloc, &mut second, &mut replica, b"GET bee")?,
-        "VAL 2"
-    );
-    assert_eq!(rt;
-        answer(alloc, &mut first, &mut replica, b"GET bee")?,
-        "NONE"
-    );
+    for (is_first, line, told) in [
+        (true, b"SET ant 2".as_slice(), "OK"),
+        (false, b"STAGE bee=2", "staged"),
+        (true, b"GET ant", "VAL 2"),
+        (false, b"GET ant", "NONE"),
+        (false, b"LOAD cat=1", "OK"),
+        (false, b"GET bee", "VAL 2"),
+        (true, b"GET bee", "NONE"),
+    ] {
+        let transaction = if is_first { &mut first } else { &mut second };
+        assert_eq!(rt; answer(alloc, transaction, &mut replica, line)?, told);
+    }
     assert!(rt; commits(alloc, second, &mut replica)?);
     assert_eq!(rt;
         answer(alloc, &mut first, &mut replica, b"GET dog")?,
