@@ -56,6 +56,14 @@ def fault_of(store: Store, entry: bytes) -> str:
     return f"{store.commits} blocks committed"
 
 
+def parted(text: bytes) -> str:
+    """What is said where a text is parted into blocks."""
+    try:
+        return f"{len(blocks_of(text))} blocks"
+    except NoEntry as fault:
+        return str(fault)
+
+
 def entries_as_bytes() -> None:
     """Entries have the bytes that the proved crate reads, and are read again; what is none is told by name, and does nothing."""
     wanted("a text", text_of(BLOCKS), TEXT)
@@ -71,8 +79,11 @@ def entries_as_bytes() -> None:
     store = Store()
     for length in range(1, len(TEXT)):
         wanted(f"its first {length} bytes", fault_of(store, TEXT[:length]), NONE_OF_BLOCKS)
+        wanted(f"the blocks of its first {length} bytes", parted(TEXT[:length]), NONE_OF_BLOCKS)
     for none, fault in NONE.items():
         wanted(f"what is said of {none[:40]!r}", fault_of(store, none)[:len(fault)], fault)
+    for none in [none for none, fault in NONE.items() if fault is NONE_OF_BLOCKS and none != FAULTY and none[:1] == b"\x01"]:
+        wanted(f"the blocks of {none!r}", parted(none), NONE_OF_BLOCKS)
     wanted("what is one", fault_of(store, HEAD + b"\0"), "1 blocks committed")
 
 

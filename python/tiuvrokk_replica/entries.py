@@ -9,7 +9,7 @@ from __future__ import annotations
 
 import struct
 import zlib
-from typing import List, NamedTuple
+from typing import List, NamedTuple, Tuple
 
 from .lines import LONGEST_SHORT, MOST_ROWS, longest_answer, most_runs_of
 
@@ -121,27 +121,38 @@ def of_other_form(text: bytes) -> str:
 
 
 def count_of(text: bytes) -> int:
-    """How many blocks a text has."""
+    """How many blocks a text says that it has."""
+    if len(text) < HEAD.size:
+        raise NoEntry(NONE_OF_BLOCKS)
     count: int = HEAD.unpack_from(text)[1]
     return count
 
 
 def blocks_of(text: bytes) -> List[Block]:
-    """The blocks of a text, which the replica took or wrote itself."""
+    """The blocks of a text. What they are answered, and whether their lines are a block's, the library says."""
     blocks: List[Block] = []
-    at = HEAD.size
+    count, at = count_of(text), HEAD.size
     try:
-        while at < len(text):
+        while len(blocks) < count:
             begin = at + NUMBER.size
             end = begin + NUMBER.unpack_from(text, at)[0]
             # (the last line may have no LF)
             body = text[begin:end] if text[end - 1] == 10 or begin == end else text[begin:end] + b"\n"
-            told = NUMBER.unpack_from(text, end + 1)[0] if text[end] else 0
-            at = end + (BESIDE - NUMBER.size if told else 1)
+            told, at = told_at(text, end) if text[end] else (0, end + 1)
             blocks.append(Block(body, told, text[at - DIGEST:at] if told else b""))
     except (struct.error, IndexError) as fault:
         raise NoEntry(NONE_OF_BLOCKS) from fault
+    if at != len(text):
+        raise NoEntry(NONE_OF_BLOCKS)
     return blocks
+
+
+def told_at(text: bytes, at: int) -> Tuple[int, int]:
+    """How many lines the flag there says were answered, and where the digest behind that ends."""
+    told: int = NUMBER.unpack_from(text, at + 1)[0]
+    if text[at] != 1 or told == 0:
+        raise NoEntry(NONE_OF_BLOCKS)
+    return told, at + 1 + NUMBER.size + DIGEST
 
 
 def portions(text: bytes) -> List[bytes]:
