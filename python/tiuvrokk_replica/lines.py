@@ -12,8 +12,9 @@ LONGEST = 4096
 LONGEST_HOLD = 60_000
 # Bytes that no answer goes beyond but rows.
 LONGEST_SHORT = 110
-# Those of an answer of most rows.
-MOST_ROWS = LONGEST_SHORT + 98 * 1000
+# Those of a row, and of an answer of most rows.
+ROW = 98
+MOST_ROWS = LONGEST_SHORT + 1000 * ROW
 # The range of all keys.
 EVERYTHING = b"! " + b"~" * 32
 # Lines that write nothing, whatever they are answered.
@@ -62,10 +63,10 @@ def is_sure(line: bytes) -> bool:
 
 
 def longest_answer(line: bytes) -> int:
-    """Bytes that no answer to the line goes beyond: a row has 98."""
+    """Bytes that no answer to the line goes beyond."""
     if line.startswith((b"SCAN ", b"RSCAN ")):
         count = line.rpartition(b" ")[2]
-        return LONGEST_SHORT + 98 * (min(int(count), 1000) if count.isdigit() and len(count) < 5 else 0)
+        return LONGEST_SHORT + ROW * (min(int(count), 1000) if count.isdigit() and len(count) < 5 else 0)
     return LONGEST_SHORT
 
 
