@@ -1,8 +1,8 @@
 -- An edit at a place below one of a node's children.
-use Rattle.std.proofs.Common.{◌≡◌, ◌≢◌, ℕ, zero, suc, ◌+◌, ◌<◌, ◌≤◌, Bool, true, false, List, [], ◌∷◌, ◌++◌, length}
-use Rattle.std.proofs.Common.{get_or, set, take, drop, if◌then◌else◌, refl, sym, ap, ◌∙◌, subst, inl, inr, ◌⊎◌}
+use Rattle.std.proofs.Common.{◌≡◌, ◌≢◌, ℕ, zero, suc, ◌+◌, ◌<◌, Bool, true, false, List, [], ◌∷◌, ◌++◌, length}
+use Rattle.std.proofs.Common.{get_or, set, take, drop, if◌then◌else◌, refl, sym, ap, ◌∙◌, subst}
 use Rattle.std.proofs.Common.{length-append, length-set, arith}
-use Rattle.std.specs.declared.cmp.Ordering.TheVariants.{Less, Greater}
+use Rattle.std.specs.declared.cmp.Ordering.TheVariants.{Less}
 use Rattle.std.specs.Ordering.{is_eq}
 use Rattle.std.specs.List.{remove, AllByRecursion}
 use Rattle.std.proofs.lemmas.List.Edits.{length-remove}
@@ -10,34 +10,27 @@ use Rattle.am_record.specs.OrderedKey.{OrderedKey}
 use Rattle.am_record.specs.declared.entry.Entry.{Entry}
 use Rattle.am_record.specs.EntryOrder.{Place, place_of, place_cmp}
 use Rattle.am_record.proofs.Lists.{AllByRecursion-map, AllByRecursion-append, AllByRecursion-take, AllByRecursion-drop}
-use Rattle.am_record.proofs.Lists.{AllByRecursion-at}
 use Rattle.std.specs.Prelude.{IsSome}
-use Rattle.am_index.specs.Entries.{find, set_entry, remove_from, IsRising}
+use Rattle.am_index.specs.Entries.{entry_at, find, set_entry, remove_from, IsRising}
+use Rattle.am_index.specs.Rooms.{HasRoom}
 use Rattle.am_index.specs.Places.{AllBelow, NoneBelow, AllAbove}
 use Rattle.am_index.proofs.Removals.{remove_from-back, remove_from-front, all_remove_from, rising_remove_from}
 use Rattle.am_index_btree.specs.declared.separator.Separator.{Separator}
 use Rattle.am_index_btree.specs.Shape.{Shape}
-use Rattle.am_index_btree.specs.Rooms.{IsRoomed}
+use Rattle.am_index_btree.specs.Rooms.{IsRoomed, KeepsRoom, IsWidened}
 use Rattle.am_index_btree.specs.Separators.{separator_place, IsChildFor}
-use Rattle.am_index_btree.specs.Nodes.{all_entries, depth_of, AreParted, AreChildren, IsInner}
-use Rattle.am_index_btree.proofs.Children.{all_below_through, children_above}
-use Rattle.am_index_btree.proofs.ChildHalves.{parted_lengths, depth_level, inner_with, some_entries}
+use Rattle.am_index_btree.specs.Nodes.{all_entries, all_roomy, depth_of, inner_shape, AreParted, AreChildren, IsInner}
+use Rattle.am_index_btree.proofs.Inner.{IsOver}
+use Rattle.am_index_btree.proofs.ChildHalves.{all_entries-append, depth_level, inner_from, some_entries}
+use Rattle.am_index_btree.proofs.ChildInserts.{own_separator, later_separators}
+use Rattle.am_index_btree.proofs.ChildWalks.{below, above, children_cut, children_set, entry_in_child, find_in_child}
+use Rattle.am_index_btree.proofs.OneChild.{IsEdited, parted_set, some_there, with_child}
+use Rattle.am_index_btree.proofs.ValueRooms.{remove_set, room_child, room_up, keeps_removed}
 
 pub all_removed : {X : Type 0} (P : X → Type 0) (xs : List X) (i : ℕ) → AllByRecursion P xs →
     AllByRecursion P (remove xs i)
 all_removed P xs i a = AllByRecursion-append P (take i xs) (drop (suc i) xs) (AllByRecursion-take P i xs a)
     (AllByRecursion-drop P (suc i) xs a)
-
-pub all_set : {X : Type 0} (P : X → Type 0) (xs : List X) (i : ℕ) (y : X) → AllByRecursion P xs → P y →
-    AllByRecursion P (set xs i y)
-all_set P [] i y a h = tt
-all_set P (x ∷ xs) zero y a h = (h, a.1)
-all_set P (x ∷ xs) (suc i) y a h = (a.0, all_set P xs i y a.1 h)
-
-pub remove_set : {X : Type 0} (xs : List X) (i : ℕ) (y : X) → remove (set xs i y) i ≡ remove xs i
-remove_set [] i y = refl
-remove_set (x ∷ xs) zero y = refl
-remove_set (x ∷ xs) (suc i) y = ap (λ l. x ∷ l) (remove_set xs i y)
 
 parted_removed : (i : ℕ) (ls : List Separator) (ks : List Shape) → AreParted ls ks →
     AreParted (remove ls i) (remove ks i)
@@ -50,24 +43,6 @@ parted_removed (suc i) (l ∷ ls) (k ∷ ks) a = (
   a.0,
   all_removed (λ n. AllBelow (separator_place n) k.entries) ls i a.1,
   parted_removed i ls ks a.2,
-)
-
--- a child with no entries gives none
-hollow_out : (i : ℕ) (ks : List Shape) (k : Shape) → k.entries ≡ [] → all_entries (remove (set ks i k) i) ≡ all_entries
-    (set ks i k)
-hollow_out zero [] k h = refl
-hollow_out (suc i) [] k h = refl
-hollow_out zero (c ∷ ks) k h = ap (λ es. es ++ all_entries ks) (sym h)
-hollow_out (suc i) (c ∷ ks) k h = ap (λ es. c.entries ++ es) (hollow_out i ks k h)
-
-some_set : (ks : List Shape) (i : ℕ) (k : Shape) → i < length ks → 0 < length k.entries →
-    0 < length (all_entries (set ks i k))
-some_set [] i k lt h = absurd (omega arith)
-some_set (c ∷ ks) zero k lt h = omega (arith, length-append k.entries (all_entries ks))
-some_set (c ∷ ks) (suc i) k lt h = omega (
-  arith,
-  some_set ks i k (omega arith) h,
-  length-append c.entries (all_entries (set ks i k)),
 )
 
 none_set : (ks : List Shape) (i : ℕ) (k : Shape) → length ks ≡ 1 → i < length ks → k.entries ≡ [] →
@@ -163,134 +138,173 @@ module _ (part : ℕ) (key : OrderedKey) where
         (if b then record e { value = value; is_ghost = is_ghost } ∷ es else e ∷ written es) ≡ suc (length es))
         [ true ↦ refl | false ↦ ap (λ (n : ℕ). suc n) (written_long es) ]
 
-  -- ---- any edit below a child
+-- ---- the child for a place
 
-  module _ (edit : List Entry → List Entry) {edited : List Entry} (is : IsEditAt part key edit edited) where
-    parted_set : (i : ℕ) (ls : List Separator) (ks : List Shape) (k k' : Shape) → AreParted ls ks → i < length ls →
-        k ≡ get_or ks i k → k'.entries ≡ edit k.entries → AreParted ls (set ks i k')
-    parted_set i [] ks k k' a lt here h = absurd (omega arith)
-    parted_set i (l ∷ ls) [] k k' a lt here h = absurd (omega (arith, a))
-    parted_set zero (l ∷ ls) (c ∷ ks) k k' a lt here h =
-        let same : k'.entries ≡ edit c.entries = h ∙ ap (λ (s : Shape). edit s.entries) here in (
-          subst (NoneBelow (separator_place l)) (sym same)
-              (is.places (λ q. place_cmp q (separator_place l) ≢ Less) c.entries a.0),
-          AllByRecursion-map (λ m. AllBelow (separator_place m) c.entries)
-              (λ m. AllBelow (separator_place m) k'.entries)
-              (λ m b. subst (AllBelow (separator_place m)) (sym same)
-              (is.places (λ q. place_cmp q (separator_place m) ≡ Less) c.entries b)) ls a.1,
-          a.2,
-        )
-    parted_set (suc i) (l ∷ ls) (c ∷ ks) k k' a lt here h = (a.0, a.1, parted_set i ls ks k k' a.2 (omega arith) here h)
+-- what is known of the place from the child
+pub record IsWayDown (s k : Shape) (part : ℕ) (key : OrderedKey) : Type 0 where
+  pub falls : k.depth < s.depth
+  pub entry : entry_at s.entries part key ≡ entry_at k.entries part key
+  pub found : find s.entries part key ≡ find k.entries part key
+  pub present : IsSome (find s.entries part key) → IsSome (find k.entries part key)
+  pub room : (bytes : ℕ) → IsSome (find s.entries part key) → HasRoom s.roomy part key bytes →
+      HasRoom k.roomy part key bytes
 
-    entries_edited : (ls : List Separator) (ks : List Shape) (i : ℕ) (k k' : Shape) → AreParted ls ks → i < length ls →
-        k ≡ get_or ks i k
-        → (i ≡ 0) ⊎ ((d : Separator) → place_cmp (separator_place (get_or ls i d)) p ≢ Greater)
-        → AllByRecursion (λ l. place_cmp (separator_place l) p ≡ Greater) (drop (suc i) ls)
-        → edited ≡ k.entries → k'.entries ≡ edit k.entries → all_entries (set ks i k') ≡ edit (all_entries ks)
-    entries_edited [] ks i k k' a lt here reached above at h = absurd (omega arith)
-    entries_edited (l ∷ ls) [] i k k' a lt here reached above at h = absurd (omega (arith, a))
-    entries_edited (l ∷ ls) (c ∷ ks) zero k k' a lt here reached above at h =
-        ap (λ es. es ++ all_entries ks) (h ∙ ap edit (sym at)) ∙
-        sym (is.front (all_entries ks) (children_above p ls ks a.2 above)) ∙
-        ap (λ es. edit (es ++ all_entries ks)) at ∙ ap (λ (s : Shape). edit (s.entries ++ all_entries ks)) here
-    entries_edited (l ∷ ls) (c ∷ ks) (suc j) k k' a lt here (inl none) above at h = absurd (omega arith)
-    entries_edited (l ∷ ls) (c ∷ ks) (suc j) k k' a lt here (inr reached) above at h =
-        let later = AllByRecursion-at (λ n. AllBelow (separator_place n) c.entries) ls j l a.1 (omega arith) in
-        ap (λ es. c.entries ++ es) (entries_edited ls ks j k k' a.2 (omega arith) here (inr reached) above at h)
-        ∙ sym (is.back c.entries (all_entries ks) (all_below_through (separator_place (get_or ls j l)) p c.entries later
-        (reached l)))
+module _ {s : Shape} {ls : List Separator} {ks : List Shape} {rk : ℕ} (node : IsOver s ls ks rk) {part : ℕ}
+    {key : OrderedKey} {i : ℕ} (child : IsChildFor ls part key i) {k : Shape} (here : k ≡ get_or ks i k) where
+  within : i < length ks
+  within = omega (arith, child.in_range, node.as_many)
+
+  abbrev d : ℕ
+  d = depth_of ks
+
+  abbrev c : AreChildren d ls ks
+  c = node.inner.children
+
+  found : find s.entries part key ≡ find k.entries part key
+  found = ap (λ (t : Shape). find t.entries part key) node.seen ∙ find_in_child part key d ls ks c i child k here
+
+  pub way_down : IsWayDown s k part key
+  way_down = record {
+    falls = node.falls i k within here;
+    entry = ap (λ (t : Shape). entry_at t.entries part key) node.seen ∙
+        entry_in_child part key d ls ks c i child k here;
+    found = found;
+    present = subst IsSome found;
+    room = λ bytes stands has. room_child part key ks i k bytes c.rising c.roomed within here
+        (subst IsSome found stands) (subst (λ (t : Shape). HasRoom t.roomy part key bytes) node.seen has);
+  }
+
+  -- ---- any edit below it
+
+  module _ {edit : List Entry → List Entry} (is : IsEditAt part key edit k.entries) (k' : Shape)
+      (deep : k'.depth ≡ k.depth) (h : k'.entries ≡ edit k.entries) where
+    parted : AreParted ls (set ks i k')
+    parted = parted_set i ls ks k' c.parted child.in_range
+        (λ e. subst (NoneBelow (separator_place (get_or ls i e))) (sym h)
+        (is.places (λ q. place_cmp q (separator_place (get_or ls i e)) ≢ Less) k.entries
+        (own_separator i ls ks k e c.parted child.in_range here)))
+        (AllByRecursion-map (λ m. AllBelow (separator_place m) k.entries) (λ m. AllBelow (separator_place m) k'.entries)
+        (λ m b. subst (AllBelow (separator_place m)) (sym h)
+        (is.places (λ q. place_cmp q (separator_place m) ≡ Less) k.entries b)) (drop (suc i) ls)
+        (later_separators i ls ks k c.parted child.in_range here))
+
+    abbrev before : List Entry
+    before = all_entries (take i ks)
+
+    abbrev behind : List Entry
+    behind = all_entries (drop (suc i) ks)
+
+    children_before : all_entries ks ≡ before ++ (k.entries ++ behind)
+    children_before = children_cut ks i k within here
+
+    children_now : all_entries (set ks i k') ≡ before ++ (k'.entries ++ behind)
+    children_now = children_set ks i k' within
+
+    entries_kept : all_entries (set ks i k') ≡ edit (all_entries ks)
+    entries_kept =
+        children_now ∙ ap (λ es. before ++ (es ++ behind)) h
+        ∙ ap (λ es. before ++ es) (sym (is.front behind (above part key d ls ks c i child)))
+        ∙ sym (ap edit children_before ∙ is.back before (k.entries ++ behind) (below part key d ls ks c i child))
+
+    rising_kept : IsRising (edit (all_entries ks))
+    rising_kept = is.rising (all_entries ks) c.rising
+
+    pub kept : KeepsRoom k k' → (1 < length ks → 0 < length k'.entries) → IsEdited s ls (set ks i k') rk edit
+    kept = with_child node i k within here edit k' deep parted entries_kept rising_kept
+
+    -- where the child has as many entries as before
+    pub kept_all : KeepsRoom k k' → length k'.entries ≡ length k.entries → IsEdited s ls (set ks i k') rk edit
+    kept_all keeps long = kept keeps (λ more. omega (arith, some_there node i k within here more, long))
 
     -- as many entries fewer as the child has
-    fewer_set : (ks : List Shape) (i : ℕ) (k k' : Shape) (n : ℕ) → i < length ks → k ≡ get_or ks i k →
-        length k'.entries + n ≡ length k.entries → length (all_entries (set ks i k')) + n ≡ length (all_entries ks)
-    fewer_set [] i k k' n lt here h = absurd (omega arith)
-    fewer_set (c ∷ ks) zero k k' n lt here h = omega (
+    pub kept_fewer : (n : ℕ) → length k'.entries + n ≡ length k.entries →
+        length (all_entries (set ks i k')) + n ≡ length s.entries
+    kept_fewer n fewer = omega (
       arith,
-      length-append k'.entries (all_entries ks),
-      length-append c.entries (all_entries ks),
-      ap (λ (s : Shape). length s.entries) here,
-      h,
-    )
-    fewer_set (c ∷ ks) (suc i) k k' n lt here h = omega (
-      arith,
-      length-append c.entries (all_entries (set ks i k')),
-      length-append c.entries (all_entries ks),
-      fewer_set ks i k k' n (omega arith) here h,
+      fewer,
+      ap length children_now,
+      ap length children_before,
+      length-append before (k'.entries ++ behind),
+      length-append k'.entries behind,
+      length-append before (k.entries ++ behind),
+      length-append k.entries behind,
+      ap (λ (t : Shape). length t.entries) node.seen,
     )
 
-    module _ (d : ℕ) (ls : List Separator) (ks : List Shape) (i : ℕ) (k k' : Shape) (c : AreChildren d ls ks)
-        (child : IsChildFor ls part key i) (here : k ≡ get_or ks i k) (deep : k'.depth ≡ k.depth)
-        (at : edited ≡ k.entries) (h : k'.entries ≡ edit k.entries) where
-      inside : i < length ks
-      inside = omega (arith, child.in_range, parted_lengths ls ks c.parted)
+    pub kept_some : 0 < length k'.entries → 0 < length (all_entries (set ks i k'))
+    kept_some some = omega (
+      arith,
+      some,
+      ap length children_now,
+      length-append before (k'.entries ++ behind),
+      length-append k'.entries behind,
+    )
 
-      level_kept : AllByRecursion (λ (j : Shape). j.depth + 1 ≡ d) (set ks i k')
-      level_kept =
-          let old = subst (λ (s : Shape). s.depth + 1 ≡ d) (sym here)
-          (AllByRecursion-at (λ (j : Shape). j.depth + 1 ≡ d) ks i k c.level inside) in
-          all_set (λ (j : Shape). j.depth + 1 ≡ d) ks i k' c.level (omega (arith, old, deep))
+    pub kept_none : length ks ≡ 1 → k'.entries ≡ [] → all_entries (set ks i k') ≡ []
+    kept_none one empty = none_set ks i k' one within empty
 
-      pub kept_depth : depth_of (set ks i k') ≡ d
-      kept_depth = depth_level d (set ks i k') (omega (arith, inside, length-set ks i k')) level_kept
+    -- where the child is freed
+    module _ (more : 1 < length ks) (empty : k'.entries ≡ []) (L : List Separator) (K : List Shape) (out : L ≡
+        remove ls i) (gone : K ≡ remove (set ks i k') i) where
+      left_is : K ≡ remove ks i
+      left_is = gone ∙ remove_set ks i k'
 
-      pub kept_entries : all_entries (set ks i k') ≡ edit (all_entries ks)
-      kept_entries = entries_edited ls ks i k k' c.parted child.in_range here child.reached child.above at
-          h
+      left_entries : all_entries K ≡ all_entries (set ks i k')
+      left_entries = ap all_entries left_is ∙ all_entries-append (take i ks) (drop (suc i) ks) ∙
+          sym (children_now ∙ ap (λ es. before ++ (es ++ behind)) empty)
 
-      pub kept_children : IsRoomed k' → (1 < length ks → 0 < length k'.entries) → AreChildren d ls (set ks i k')
-      kept_children roomed f = record {
-        level = level_kept;
-        filled = (λ lt. all_set (λ (j : Shape). 0 < length j.entries) ks i k'
-            (c.filled (omega (arith, lt, length-set ks i k'))) (f (omega (arith, lt, length-set ks i k'))));
-        parted = parted_set i ls ks k k' c.parted child.in_range here h;
-        roomed = all_set (λ (j : Shape). IsRoomed j) ks i k' c.roomed roomed;
-        rising = subst IsRising (sym kept_entries) (is.rising (all_entries ks) c.rising);
+      left_long : length K + 1 ≡ length ks
+      left_long = ap (λ (js : List Shape). length js + 1) left_is ∙ length-remove ks i within
+
+      left_level : AllByRecursion (λ (j : Shape). j.depth + 1 ≡ d) K
+      left_level = subst (AllByRecursion (λ (j : Shape). j.depth + 1 ≡ d)) (sym left_is)
+          (all_removed (λ (j : Shape). j.depth + 1 ≡ d) ks i c.level)
+
+      left_filled : AllByRecursion (λ (j : Shape). 0 < length j.entries) K
+      left_filled = subst (AllByRecursion (λ (j : Shape). 0 < length j.entries)) (sym left_is)
+          (all_removed (λ (j : Shape). 0 < length j.entries) ks i (c.filled more))
+
+      pub left : (rk' : ℕ) → rk' ≡ rk → IsEdited s L K rk' edit
+      left rk' room = record {
+        inner = inner_from d L K L K rk' refl refl (record {
+          level = left_level;
+          filled = left_filled;
+          parted = subst (λ ms. AreParted ms K) (sym out) (subst (AreParted (remove ls i)) (sym left_is)
+              (parted_removed i ls ks c.parted));
+          roomed = subst (AllByRecursion (λ (j : Shape). IsRoomed j)) (sym left_is)
+              (all_removed (λ (j : Shape). IsRoomed j) ks i c.roomed);
+          rising = subst IsRising (sym (left_entries ∙ entries_kept)) rising_kept;
+        }) (omega (arith, left_long, more)) (omega (arith, left_long, node.inner.most))
+            (omega (arith, room, node.inner.room));
+        entries = left_entries ∙ entries_kept ∙ sym (ap (λ (t : Shape). edit t.entries) node.seen);
+        depth = depth_level d K (omega (arith, left_long, more)) left_level ∙
+            sym (ap (λ (t : Shape). t.depth) node.seen);
+        rooms = subst (λ (t : Shape). KeepsRoom t (inner_shape K)) (sym node.seen)
+            (subst (λ js. KeepsRoom (inner_shape ks) (inner_shape js)) (sym gone)
+            (keeps_removed ks i k c.rising c.roomed within here k'));
       }
 
-      pub kept_inner : (rk : ℕ) → IsRoomed k' → (1 < length ks → 0 < length k'.entries) → length ks ≤ 32 → 32 ≤ rk →
-          IsInner ls (set ks i k') rk
-      kept_inner rk roomed f most room =
-          let same = length-set ks i k' in
-          inner_with d ls (set ks i k') ls (set ks i k') rk refl refl (kept_children roomed f) (omega (arith, inside))
-          (omega (arith, most)) room
+      pub left_fewer : (n : ℕ) → length k'.entries + n ≡ length k.entries → length (all_entries K) + n ≡ length
+          s.entries
+      left_fewer n fewer = ap (λ es. length es + n) left_entries ∙ kept_fewer n fewer
 
-      pub kept_fewer : (n : ℕ) → length k'.entries + n ≡ length k.entries →
-          length (all_entries (set ks i k')) + n ≡ length (all_entries ks)
-      kept_fewer n fewer = fewer_set ks i k k' n inside here fewer
+      pub left_some : 0 < length (all_entries K)
+      left_some = some_entries K (omega (arith, left_long, more)) left_filled
 
-      pub kept_some : 0 < length k'.entries → 0 < length (all_entries (set ks i k'))
-      kept_some some = some_set ks i k' inside some
+  -- ---- room that was got below it
 
-      pub kept_none : length ks ≡ 1 → k'.entries ≡ [] → all_entries (set ks i k') ≡ []
-      kept_none one empty = none_set ks i k' one inside empty
+  pub widened : {k' : Shape} → IsWidened k k' →
+      IsInner ls (set ks i k') rk × IsWidened s (inner_shape (set ks i k'))
+  widened {k'} w =
+      let e = kept_all (staying part key k.entries) k' w.depth w.entries w.room (ap length w.entries) in
+      (e.inner, record { depth = e.depth; entries = e.entries; room = e.rooms })
 
-      module _ (more : 1 < length ks) (empty : k'.entries ≡ []) where
-        pub left_entries : all_entries (remove (set ks i k') i) ≡ edit (all_entries ks)
-        left_entries = hollow_out i ks k' empty ∙ kept_entries
-
-        pub left_fewer : (n : ℕ) → length k'.entries + n ≡ length k.entries →
-            length (all_entries (remove (set ks i k') i)) + n ≡ length (all_entries ks)
-        left_fewer n fewer = ap (λ es. length es + n) (hollow_out i ks k' empty) ∙ kept_fewer n fewer
-
-        pub left_filled : AllByRecursion (λ (j : Shape). 0 < length j.entries) (remove (set ks i k') i)
-        left_filled = subst (AllByRecursion (λ (j : Shape). 0 < length j.entries)) (sym (remove_set ks i k'))
-            (all_removed (λ (j : Shape). 0 < length j.entries) ks i (c.filled more))
-
-        pub left_children : AreChildren d (remove ls i) (remove (set ks i k') i)
-        left_children = record {
-          level = all_removed (λ (j : Shape). j.depth + 1 ≡ d) (set ks i k') i level_kept;
-          filled = (λ _. left_filled);
-          parted = parted_removed i ls (set ks i k') (parted_set i ls ks k k' c.parted child.in_range here h);
-          roomed = subst (AllByRecursion (λ (j : Shape). IsRoomed j)) (sym (remove_set ks i k'))
-              (all_removed (λ (j : Shape). IsRoomed j) ks i c.roomed);
-          rising = subst IsRising (sym left_entries) (is.rising (all_entries ks) c.rising);
-        }
-
-        pub left_long : length (remove (set ks i k') i) + 1 ≡ length ks
-        left_long = length-remove (set ks i k') i (omega (arith, inside, length-set ks i k')) ∙ length-set ks i k'
-
-        pub left_depth : depth_of (remove (set ks i k') i) ≡ d
-        left_depth = depth_level d (remove (set ks i k') i) (omega (arith, left_long)) left_children.level
-
-        pub left_some : 0 < length (all_entries (remove (set ks i k') i))
-        left_some = some_entries (remove (set ks i k') i) (omega (arith, left_long)) left_filled
+  pub room_got : {k' : Shape} → IsWidened k k' → (bytes : ℕ) → HasRoom k'.roomy part key bytes →
+      HasRoom (all_roomy (set ks i k')) part key bytes
+  room_got {k'} w bytes has = room_up part key (set ks i k') i k' bytes (omega (arith, within, length-set ks i k'))
+      (get_set ks i k' within) has
+    where
+      get_set : (ks : List Shape) (i : ℕ) (k : Shape) → i < length ks → k ≡ get_or (set ks i k) i k
+      get_set [] i k lt = absurd (omega arith)
+      get_set (c ∷ ks) zero k lt = refl
+      get_set (c ∷ ks) (suc i) k lt = get_set ks i k (omega arith)

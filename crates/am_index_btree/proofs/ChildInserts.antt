@@ -23,11 +23,12 @@ use Rattle.am_index_btree.specs.declared.separator.Separator.{Separator}
 use Rattle.am_index_btree.specs.Shape.{Shape}
 use Rattle.am_index_btree.specs.Rooms.{IsRoomed}
 use Rattle.am_index_btree.specs.Separators.{separator_place, separator_for, lowered, IsReach, IsChildFor}
-use Rattle.am_index_btree.specs.Nodes.{all_entries, depth_of, inner_shape, AreParted, AreFilledChildren, AreChildren}
+use Rattle.am_index_btree.specs.Nodes.{all_entries, depth_of, AreParted, AreFilledChildren, AreChildren}
 use Rattle.am_index_btree.specs.Nodes.{IsInner}
 use Rattle.am_index_btree.specs.declared.insert.Split.{Split}
 use Rattle.am_index_btree.specs.InsertResults.{HasSplit}
-use Rattle.am_index_btree.proofs.Children.{all_below_through, all_above_through, children_above, find_in_child}
+use Rattle.am_index_btree.proofs.Children.{all_above_through}
+use Rattle.am_index_btree.proofs.ChildWalks.{below, above, children_cut}
 use Rattle.am_index_btree.proofs.ChildHalves.{all_both, all_in_each, parted_lengths, all_entries-append, depth_level}
 use Rattle.am_index_btree.proofs.ChildHalves.{separators_apart, inner_from}
 
@@ -143,7 +144,7 @@ all_at_take P n [] d a lt = absurd (omega arith)
 all_at_take P zero (x ∷ xs) d a lt = a.0
 all_at_take P (suc n) (x ∷ xs) d a lt = all_at_take P n xs d a.1 (omega arith)
 
-later_separators : (i : ℕ) (ls : List Separator) (ks : List Shape) (k : Shape) → AreParted ls ks → i < length ls →
+pub later_separators : (i : ℕ) (ls : List Separator) (ks : List Shape) (k : Shape) → AreParted ls ks → i < length ls →
     k ≡ get_or ks i k → AllByRecursion (λ m. AllBelow (separator_place m) k.entries) (drop (suc i) ls)
 later_separators i [] ks k a lt here = absurd (omega arith)
 later_separators i (l ∷ ls) [] k a lt here = absurd (omega (arith, a))
@@ -151,31 +152,13 @@ later_separators zero (l ∷ ls) (c ∷ ks) k a lt here =
     subst (λ (s : Shape). AllByRecursion (λ m. AllBelow (separator_place m) s.entries) ls) (sym here) a.1
 later_separators (suc i) (l ∷ ls) (c ∷ ks) k a lt here = later_separators i ls ks k a.2 (omega arith) here
 
-own_separator : (i : ℕ) (ls : List Separator) (ks : List Shape) (k : Shape) (d : Separator) → AreParted ls ks →
+pub own_separator : (i : ℕ) (ls : List Separator) (ks : List Shape) (k : Shape) (d : Separator) → AreParted ls ks →
     i < length ls → k ≡ get_or ks i k → NoneBelow (separator_place (get_or ls i d)) k.entries
 own_separator i [] ks k d a lt here = absurd (omega arith)
 own_separator i (l ∷ ls) [] k d a lt here = absurd (omega (arith, a))
 own_separator zero (l ∷ ls) (c ∷ ks) k d a lt here = subst (λ (s : Shape). NoneBelow (separator_place l) s.entries)
     (sym here) a.0
 own_separator (suc i) (l ∷ ls) (c ∷ ks) k d a lt here = own_separator i ls ks k d a.2 (omega arith) here
-
-pub entries_in_place : (x : Entry) (ls : List Separator) (ks : List Shape) (i : ℕ) (k : Shape) (nk : List Shape) →
-    AreParted ls ks → i < length ls → k ≡ get_or ks i k
-    → (i ≡ 0) ⊎ ((d : Separator) → place_cmp (separator_place (get_or ls i d)) (place_of x) ≢ Greater)
-    → AllByRecursion (λ l. place_cmp (separator_place l) (place_of x) ≡ Greater) (drop (suc i) ls)
-    → all_entries nk ≡ insert_entry k.entries x → all_entries (in_place ks i nk) ≡ insert_entry (all_entries ks) x
-entries_in_place x [] ks i k nk a lt here reached above h = absurd (omega arith)
-entries_in_place x (l ∷ ls) [] i k nk a lt here reached above h = absurd (omega (arith, a))
-entries_in_place x (l ∷ ls) (c ∷ ks) zero k nk a lt here reached above h =
-    all_entries-append nk ks ∙ ap (λ es. es ++ all_entries ks) h ∙
-    ap (λ (s : Shape). insert_entry s.entries x ++ all_entries ks) here
-    ∙ sym (insert_entry-front x c.entries (all_entries ks) (children_above (place_of x) ls ks a.2 above))
-entries_in_place x (l ∷ ls) (c ∷ ks) (suc j) k nk a lt here (inl none) above h = absurd (omega arith)
-entries_in_place x (l ∷ ls) (c ∷ ks) (suc j) k nk a lt here (inr reached) above h =
-    let later = AllByRecursion-at (λ n. AllBelow (separator_place n) c.entries) ls j l a.1 (omega arith) in
-    ap (λ es. c.entries ++ es) (entries_in_place x ls ks j k nk a.2 (omega arith) here (inr reached) above h)
-    ∙ sym (insert_entry-back x c.entries (all_entries ks)
-    (all_below_through (separator_place (get_or ls j l)) (place_of x) c.entries later (reached l)))
 
 abbrev pub before : ℕ → ℕ
 before zero = 0
@@ -272,8 +255,13 @@ module _ (x : Entry) (d : ℕ) (ls : List Separator) (ks : List Shape) (n : ℕ)
       (all : all_entries nk ≡ insert_entry k.entries x) (level : AllByRecursion (λ (j : Shape). j.depth + 1 ≡ d) nk)
       (filled : AllByRecursion (λ (j : Shape). 0 < length j.entries) nk) where
     pub regrown_entries : all_entries (in_place ks (before n) nk) ≡ insert_entry (all_entries ks) x
-    regrown_entries = entries_in_place x ls ks (before n) k nk c.parted child.in_range here child.reached child.above
-        all
+    regrown_entries =
+        let front = all_entries (take (before n) ks) in let behind = all_entries (drop (suc (before n)) ks) in
+        all_entries-append (take (before n) ks) (nk ++ drop (suc (before n)) ks)
+        ∙ ap (λ es. front ++ es) (all_entries-append nk (drop (suc (before n)) ks) ∙ ap (λ es. es ++ behind) all ∙
+        sym (insert_entry-front x k.entries behind (above x.part x.key d ls ks c (before n) child)))
+        ∙ sym (ap (λ es. insert_entry es x) (children_cut ks (before n) k child_in here) ∙
+        insert_entry-back x front (k.entries ++ behind) (below x.part x.key d ls ks c (before n) child))
 
     pub regrown : AllByRecursion (λ (j : Shape). IsRoomed j) nk →
         AreFilledChildren d (in_place ls (before n) (low ∷ ms)) (in_place ks (before n) nk)
@@ -391,32 +379,3 @@ module _ (x : Entry) (d : ℕ) (ls : List Separator) (ks : List Shape) (n : ℕ)
 pub length_lowered : (ls : List Separator) (n : ℕ) (x : Entry) → length (lowered ls n x) ≡ length ls
 length_lowered ls zero x = length-set ls 0 (separator_for x)
 length_lowered ls (suc n) x = refl
-
--- ---- the child that an entry goes to whose place is free
-
-pub record IsWayIn (x : Entry) (ls : List Separator) (ks : List Shape) (n at : ℕ) (k : Shape) : Type 0 where
-  pub at_is : at ≡ before n
-  pub inside : before n < length ks
-  pub here : k ≡ get_or ks (before n) k
-  pub child : IsChildFor ls x.part x.key (before n)
-  pub absent : find (all_entries ks) x.part x.key ≡ None
-  pub absent_there : find k.entries x.part x.key ≡ None
-
-pub way_in : (x : Entry) (old : Shape) (ls : List Separator) (ks : List Shape) (cap n at : ℕ) (k : Shape) →
-    IsInner ls ks cap → old ≡ inner_shape ks → IsReach ls x.part x.key n → at ≡ n - 1 → k ≡ get_or ks at k →
-    find old.entries x.part x.key ≡ None → IsWayIn x ls ks n at k
-way_in x old ls ks cap n at k inner seen reach at_is here absent =
-    let long = parted_lengths ls ks inner.children.parted in
-    let first : at ≡ before n = at_is ∙ sym (before_is n) in
-    let child = child_from_reach ls x.part x.key n (omega (arith, inner.some, long)) reach in
-    let there : k ≡ get_or ks (before n) k = here ∙ ap (λ (j : ℕ). get_or ks j k) first in
-    let all : find (all_entries ks) x.part x.key ≡ None = sym (ap (λ (s : Shape). find s.entries x.part x.key) seen) ∙
-    absent in
-    record {
-      at_is = first;
-      inside = omega (arith, child.in_range, long);
-      here = there;
-      child = child;
-      absent = all;
-      absent_there = sym (find_in_child x.part x.key ls ks (before n) k inner.children.parted child there) ∙ all;
-    }

@@ -1,52 +1,85 @@
 -- Walks over the children of a node.
 use Rattle.std.proofs.Common.{◌≡◌, ◌≢◌, ℕ, zero, suc, ◌+◌, ◌<◌, ◌≤◌, true, false, List, [], ◌∷◌, ◌++◌, length, get_or}
 use Rattle.std.proofs.Common.{take}
-use Rattle.std.proofs.Common.{drop, reverse, Some, None, refl, sym, ap, ◌∙◌, subst, inl, inr, ◌⊎◌, append_assoc}
-use Rattle.std.proofs.Common.{append-nil}
+use Rattle.std.proofs.Common.{drop, reverse, Option, Some, None, sym, ap, ◌∙◌, subst, inl, inr, ◌⊎◌, append_assoc}
+use Rattle.std.proofs.Common.{append-nil, length-take, set}
+use Rattle.std.proofs.lemmas.List.{set_split}
 use Rattle.std.proofs.Common.{add-one, arith}
 use Rattle.std.proofs.lemmas.List.{drop_all, get_or_default, reverse-append}
 use Rattle.std.proofs.Math.Seq.{drop-cons, take-suc}
-use Rattle.std.specs.List.{AllByRecursion, slice_get}
-use Rattle.std.specs.declared.cmp.Ordering.{Ordering}
-use Rattle.std.specs.declared.cmp.Ordering.TheVariants.{Less, Equal, Greater}
+use Rattle.std.specs.List.{AllByRecursion}
+use Rattle.std.specs.declared.cmp.Ordering.TheVariants.{Less, Greater}
 use Rattle.std.specs.Ordering.{is_le}
 use Rattle.am_record.specs.OrderedKey.{OrderedKey}
 use Rattle.am_record.specs.Interval.{Interval}
-use Rattle.am_record.specs.Plain.{Records}
 use Rattle.am_record.specs.declared.entry.Entry.{Entry}
 use Rattle.am_record.specs.EntryOrder.{Place, place_of, place_cmp, place_cmp-part}
-use Rattle.am_record.proofs.Lists.{AllByRecursion-map, AllByRecursion-append, AllByRecursion-at, AllByRecursion-drop}
+use Rattle.am_record.proofs.Lists.{AllByRecursion-map, AllByRecursion-append, AllByRecursion-at}
 use Rattle.am_record.proofs.Orderings.{le_not_greater}
 use Rattle.am_record.proofs.PlaceOrder.{turned_greater}
+use Rattle.std.specs.Option.{option_map}
+use Rattle.am_index.specs.Entries.{slot_of, entry_at, find}
 use Rattle.am_index.specs.Places.{AllBelow, NoneBelow, AllAbove}
-use Rattle.am_index.proofs.Batches.{take_both, all_reached-append, all_reached_none, all_reached_others}
+use Rattle.am_index.proofs.Lists.{entry_at-append}
+use Rattle.am_index.proofs.Batches.{take_both, take_full, take_whole, all_reached-append, all_reached_none}
+use Rattle.am_index.proofs.Batches.{all_reached_others}
 use Rattle.am_index.specs.Content.{rows_in}
 use Rattle.am_index.proofs.Rows.{rows_in-append, rows_below, rows_above}
 use Rattle.am_index_btree.specs.declared.separator.Separator.{Separator}
 use Rattle.am_index_btree.specs.declared.read.Start.{Start}
-use Rattle.am_index_btree.specs.Seek.{is_reached, first_from, all_such}
+use Rattle.am_index_btree.specs.declared.read.Wanted.{Wanted}
+use Rattle.am_index_btree.specs.declared.read.Beginning.{Beginning}
+use Rattle.am_index_btree.specs.Seek.{is_reached, is_onward, first_wanted, all_such, IsChildFrom}
 use Rattle.am_index_btree.specs.Shape.{Shape}
 use Rattle.am_index_btree.specs.Separators.{separator_place, IsChildFor}
 use Rattle.am_index_btree.specs.Nodes.{all_entries, AreParted, AreChildren}
-use Rattle.am_index_btree.proofs.Children.{all_below_through, children_above, above_through}
+use Rattle.am_index_btree.proofs.Children.{all_below_through, children_above, above_through, entry_at-front}
 use Rattle.am_index_btree.proofs.ChildHalves.{AreParted-drop, all_entries-append, all_entries_cut, parted_cut}
 use Rattle.am_index_btree.proofs.ChildHalves.{parted_lengths}
-use Rattle.am_index_btree.proofs.Seeks.{first_past, first_above, first_here, first_later, reached_less}
+use Rattle.am_index_btree.proofs.Inner.{IsOver}
+use Rattle.am_index_btree.proofs.SeparatorReach.{le_false}
+use Rattle.am_index_btree.proofs.Seeks.{wanted_past, wanted_here, wanted_later, all_onward, reached_less}
+use Rattle.am_index_btree.proofs.Seeks.{reached_greater}
 
--- ---- the first entry of several children
+-- the first child of the rest
+pub rest_cut : (ks : List Shape) (i : ℕ) (k : Shape) → i < length ks → k ≡ get_or ks i k →
+    all_entries (drop i ks) ≡ k.entries ++ all_entries (drop (suc i) ks)
+rest_cut ks i k within here = ap all_entries (drop-cons ks i k within) ∙
+    ap (λ (s : Shape). s.entries ++ all_entries (drop (suc i) ks)) (sym here)
 
-slice_get-front : (xs ys : List Entry) → 0 < length xs → slice_get (xs ++ ys) 0 ≡ slice_get xs 0
-slice_get-front [] ys lt = absurd (omega arith)
-slice_get-front (x ∷ xs) ys lt = refl
+-- the entries before a child, its own, and those behind it
+pub children_cut : (ks : List Shape) (i : ℕ) (k : Shape) → i < length ks → k ≡ get_or ks i k →
+    all_entries ks ≡ all_entries (take i ks) ++ (k.entries ++ all_entries (drop (suc i) ks))
+children_cut ks i k within here = sym (all_entries_cut i ks) ∙ ap (λ es. all_entries (take i ks) ++ es)
+    (rest_cut ks i k within here)
 
-pub first_of_all : (ks : List Shape) (k : Shape) → 0 < length ks →
-    (1 < length ks → AllByRecursion (λ (j : Shape). 0 < length j.entries) ks) → k ≡ get_or ks 0 k →
-    slice_get (all_entries ks) 0 ≡ slice_get k.entries 0
-first_of_all [] k some filled here = absurd (omega arith)
-first_of_all (c ∷ []) k some filled here = ap (λ es. slice_get es 0) (append-nil c.entries) ∙
-    ap (λ (s : Shape). slice_get s.entries 0) (sym here)
-first_of_all (c ∷ d ∷ ks) k some filled here = slice_get-front c.entries (all_entries (d ∷ ks))
-    (filled (omega arith)).0 ∙ ap (λ (s : Shape). slice_get s.entries 0) (sym here)
+-- and with another child there
+pub children_set : (ks : List Shape) (i : ℕ) (k : Shape) → i < length ks →
+    all_entries (set ks i k) ≡ all_entries (take i ks) ++ (k.entries ++ all_entries (drop (suc i) ks))
+children_set ks i k within = ap all_entries (set_split ks i k within) ∙
+    all_entries-append (take i ks) (k ∷ drop (suc i) ks)
+
+-- ---- a list that is filled up to a number
+
+-- it was filled so far: with what is left it gets what it gets of all
+pub record IsWalked {X : Type 0} (max : ℕ) (old new left all : List X) : Type 0 where
+  pub fits : length new ≤ max
+  pub same : take max (new ++ left) ≡ take max (old ++ all)
+
+module _ {X : Type 0} {max : ℕ} {old new left all : List X} (w : IsWalked max old new left all) where
+  pub walk_on : (xs rest now : List X) → left ≡ xs ++ rest → now ≡ take max (new ++ xs) → IsWalked max old now rest all
+  walk_on xs rest now is read = record {
+    fits = omega (arith, ap length read, length-take max (new ++ xs));
+    same =
+        ap (λ l. take max (l ++ rest)) read ∙ take_both max (new ++ xs) rest
+        ∙ ap (take max) (append_assoc new xs rest ∙ ap (λ l. new ++ l) (sym is)) ∙ w.same;
+  }
+
+  pub walk_full : max ≤ length new → new ≡ take max (old ++ all)
+  walk_full full = sym (take_full max new left (omega (arith, w.fits, full))) ∙ w.same
+
+  pub walk_out : left ≡ [] → new ≡ take max (old ++ all)
+  walk_out none = sym (ap (λ l. take max (new ++ l)) none ∙ take_whole max new w.fits) ∙ w.same
 
 -- ---- the children before the one for a place, and after it
 
@@ -81,6 +114,22 @@ module _ (part : ℕ) (key : OrderedKey) where
     pub above : AllAbove p (all_entries (drop (suc i) ks))
     above = children_above p (drop (suc i) ls) (drop (suc i) ks) (AreParted-drop (suc i) ls ks c.parted) child.above
 
+    module _ (k : Shape) (here : k ≡ get_or ks i k) where
+      -- the entry of the place stands in the child
+      pub entry_in_child : entry_at (all_entries ks) part key ≡ entry_at k.entries part key
+      entry_in_child =
+          ap (λ es. entry_at es part key) (children_cut ks i k (omega (
+            arith,
+            child.in_range,
+            parted_lengths ls ks
+                c.parted,
+          )) here) ∙
+          entry_at-append part key (all_entries (take i ks)) (k.entries ++ all_entries (drop (suc i) ks)) below ∙
+          entry_at-front part key k.entries (all_entries (drop (suc i) ks)) above
+
+      pub find_in_child : find (all_entries ks) part key ≡ find k.entries part key
+      find_in_child = ap (option_map slot_of) entry_in_child
+
     -- reading on begins in the child
     pub read_from : (start : Start) → all_such start (all_entries (drop i ks)) part key ≡ all_such start
         (all_entries ks) part key
@@ -90,65 +139,16 @@ module _ (part : ℕ) (key : OrderedKey) where
         ∙ sym (all_reached-append part key (is_reached start) (all_entries (take i ks)) (all_entries (drop i ks))) ∙
         ap (λ es. all_such start es part key) (all_entries_cut i ks)
 
-    module _ (start : Start) (k : Shape) (here : k ≡ get_or ks i k) where
-      within : i < length ks
-      within = omega (arith, child.in_range, parted_lengths ls ks c.parted)
-
-      rest : all_entries (drop i ks) ≡ k.entries ++ all_entries (drop (suc i) ks)
-      rest = ap all_entries (drop-cons ks i k within) ∙ ap (λ (s : Shape). s.entries ++ all_entries (drop (suc i) ks))
-          (sym here)
-
-      from_child : first_from start (all_entries ks) part key ≡ first_from start
-          (k.entries ++ all_entries (drop (suc i) ks)) part key
-      from_child =
-          ap (λ es. first_from start es part key) (sym (all_entries_cut i ks)) ∙
-          first_past start part key (all_entries (take i ks)) (all_entries (drop i ks)) below
-          ∙ ap (λ es. first_from start es part key) rest
-
-      -- what a walk finds in the child
-      pub found_here : (e : Entry) → first_from start k.entries part key ≡ Some e →
-          first_from start (all_entries ks) part key ≡ Some e
-      found_here e h = from_child ∙ first_here start part key k.entries (all_entries (drop (suc i) ks)) e h
-
-      past_child : first_from start k.entries part key ≡ None → first_from start (all_entries ks) part key ≡ slice_get
-          (all_entries (drop (suc i) ks)) 0
-      past_child h = from_child ∙ first_later start part key k.entries (all_entries (drop (suc i) ks)) h ∙
-          first_above start part key (all_entries (drop (suc i) ks)) above
-
-      -- in the next one
-      pub found_next : (n : Shape) → first_from start k.entries part key ≡ None → i + 1 < length ks →
-          n ≡ get_or ks (i + 1) n → first_from start (all_entries ks) part key ≡ slice_get n.entries 0
-      found_next n h lt next =
-          let filled = AllByRecursion-drop (λ (j : Shape). 0 < length j.entries) (suc i) ks
-          (c.filled (omega (arith, lt))) in
-          let cut : drop (suc i) ks ≡ get_or ks (suc i) n ∷ drop (suc (suc i)) ks =
-          drop-cons ks (suc i) n (omega (arith, lt)) in
-          let first : n ≡ get_or (drop (suc i) ks) 0 n = next ∙ ap (λ (j : ℕ). get_or ks j n) (add-one i) ∙
-          ap (λ xs. get_or xs 0 n) (sym cut) in
-          past_child h ∙ first_of_all (drop (suc i) ks) n (omega (arith, ap length cut)) (λ _. filled) first
-
-      -- or nowhere
-      pub found_nowhere : first_from start k.entries part key ≡ None → length ks ≤ i + 1 →
-          first_from start (all_entries ks) part key ≡ None
-      found_nowhere h le = past_child h ∙ ap (λ xs. slice_get (all_entries xs) 0)
-          (drop_all (suc i) ks (omega (arith, le)))
-
   -- ---- reading on
 
-  pub next_child : (start : Start) (batch : List Entry) (ks : List Shape) (i : ℕ) (k : Shape) → i < length ks →
-      k ≡ get_or ks i k
-      → take 16 (take 16 (batch ++ all_such start k.entries part key) ++ all_such start (all_entries (drop (i + 1) ks))
-      part key) ≡ take 16 (batch ++ all_such start (all_entries (drop i ks)) part key)
-  next_child start batch ks i k lt here =
-      let left = all_entries (drop (suc i) ks) in
-      let whole : all_entries (drop i ks) ≡ k.entries ++ left = ap all_entries (drop-cons ks i k lt) ∙
-      ap (λ (s : Shape). s.entries ++ left) (sym here) in
-      ap (λ (j : ℕ). take 16 (take 16 (batch ++ all_such start k.entries part key) ++
-      all_such start (all_entries (drop j ks)) part key)) (add-one i)
-      ∙ take_both 16 (batch ++ all_such start k.entries part key) (all_such start left part key)
-      ∙ ap (take 16) (append_assoc batch (all_such start k.entries part key) (all_such start left part key))
-      ∙ ap (λ es. take 16 (batch ++ es)) (sym (all_reached-append part key (is_reached start) k.entries left) ∙
-      ap (λ es. all_such start es part key) (sym whole))
+  -- the next child, and those behind it
+  pub read_next : (start : Start) (ks : List Shape) (i : ℕ) (k : Shape) → i < length ks → k ≡ get_or ks i k →
+      all_such start (all_entries (drop i ks)) part key ≡ all_such start k.entries part key ++
+      all_such start (all_entries (drop (i + 1) ks)) part key
+  read_next start ks i k lt here = ap (λ es. all_such start es part key) (rest_cut ks i k lt here) ∙
+      all_reached-append part key (is_reached start) k.entries (all_entries (drop (suc i) ks)) ∙
+      ap (λ (n : ℕ). all_such start k.entries part key ++ all_such start (all_entries (drop n ks)) part key)
+      (sym (add-one i))
 
   none_in_part : (start : Start) (l : Place) (es : List Entry) → part < l.0 → NoneBelow l es →
       all_such start es part key ≡ []
@@ -178,6 +178,54 @@ module _ (part : ℕ) (key : OrderedKey) where
       (subst (λ (m : Separator). NoneBelow (separator_place m) (all_entries (drop i ks))) (sym here)
       (none_below_rest ls ks i l c.parted c.filled lt))
 
+-- ---- the child with which a search begins
+
+pub child_within : {s : Shape} {ls : List Separator} {ks : List Shape} {rk : ℕ} → IsOver s ls ks rk →
+    (from : Option Beginning) (i : ℕ) → IsChildFrom from ls i → i < length ks
+child_within node None i first = omega (arith, node.inner.some, first)
+child_within node (Some from) i child = omega (arith, child.in_range, node.as_many)
+
+module _ (wanted : Wanted) (d : ℕ) (ls : List Separator) (ks : List Shape) (c : AreChildren d ls ks) where
+  -- the children before it are passed over, and those behind it stand from there on
+  pub search_from : (from : Option Beginning) (i : ℕ) → IsChildFrom from ls i →
+      (first_wanted wanted from (all_entries (drop i ks)) ≡ first_wanted wanted from (all_entries ks))
+      × AllByRecursion (λ e. is_onward from e ≡ true) (all_entries (drop (suc i) ks))
+  search_from None i first = (
+    ap (λ n. first_wanted wanted None (all_entries (drop n ks))) first,
+    all_onward (all_entries (drop (suc i) ks)),
+  )
+  search_from (Some from) i child =
+      let p : Place = (from.part, from.key) in (
+        sym (ap (first_wanted wanted (Some from)) (sym (all_entries_cut i ks)) ∙
+            wanted_past wanted (Some from) (all_entries (take i ks)) (all_entries (drop i ks))
+            (AllByRecursion-map (λ e. place_cmp (place_of e) p ≡ Less) (λ e. is_onward (Some from) e ≡ false)
+            (λ e h. reached_less from.start (place_cmp (place_of e) p) h) (all_entries (take i ks))
+            (below from.part from.key d ls ks c i child))),
+        AllByRecursion-map (λ e. place_cmp (place_of e) p ≡ Greater) (λ e. is_onward (Some from) e ≡ true)
+            (λ e h. reached_greater from.start (place_cmp (place_of e) p) h) (all_entries (drop (suc i) ks))
+            (above from.part from.key d ls ks c i child),
+      )
+
+module _ (wanted : Wanted) (from : Option Beginning) (ks : List Shape) (i : ℕ) where
+  -- what is found in the next child
+  pub search_here : (k : Shape) → i < length ks → k ≡ get_or ks i k → (e : Entry) →
+      Some e ≡ first_wanted wanted from k.entries → Some e ≡ first_wanted wanted from (all_entries (drop i ks))
+  search_here k within here e found = wanted_here wanted from k.entries (all_entries (drop (suc i) ks)) e found ∙
+      ap (first_wanted wanted from) (sym (rest_cut ks i k within here))
+
+  -- where nothing is, it goes on with the one after it
+  pub search_on : (k : Shape) → i < length ks → k ≡ get_or ks i k → None ≡ first_wanted wanted from k.entries →
+      AllByRecursion (λ e. is_onward from e ≡ true) (all_entries (drop (suc i) ks)) →
+      first_wanted wanted None (all_entries (drop (i + 1) ks)) ≡ first_wanted wanted from (all_entries (drop i ks))
+  search_on k within here none behind =
+      ap (λ (n : ℕ). first_wanted wanted None (all_entries (drop n ks))) (add-one i) ∙
+      wanted_later wanted from k.entries (all_entries (drop (suc i) ks)) none behind ∙
+      ap (first_wanted wanted from) (sym (rest_cut ks i k within here))
+
+  -- up to the last one
+  pub search_ends : length ks ≤ i → None ≡ first_wanted wanted from (all_entries (drop i ks))
+  search_ends past = sym (ap (λ (l : List Shape). first_wanted wanted from (all_entries l)) (drop_all i ks past))
+
 -- ---- rows copied from the children
 
 module _ (part : ℕ) (range : Interval) where
@@ -190,19 +238,12 @@ module _ (part : ℕ) (range : Interval) where
       ∙ sym (rows_in-append part range (all_entries (take i ks)) (all_entries (drop i ks))) ∙
       ap (λ es. rows_in es part range) (all_entries_cut i ks)
 
-  pub next_rows : (max : ℕ) (rows : Records) (ks : List Shape) (i : ℕ) (k : Shape) → i < length ks → k ≡ get_or ks i k
-      → take max (take max (rows ++ rows_in k.entries part range) ++ rows_in (all_entries (drop (i + 1) ks)) part
-      range) ≡ take max (rows ++ rows_in (all_entries (drop i ks)) part range)
-  next_rows max rows ks i k lt here =
-      let left = all_entries (drop (suc i) ks) in
-      let whole : all_entries (drop i ks) ≡ k.entries ++ left = ap all_entries (drop-cons ks i k lt) ∙
-      ap (λ (s : Shape). s.entries ++ left) (sym here) in
-      ap (λ (j : ℕ). take max (take max (rows ++ rows_in k.entries part range) ++ rows_in (all_entries (drop j ks)) part
-      range)) (add-one i)
-      ∙ take_both max (rows ++ rows_in k.entries part range) (rows_in left part range)
-      ∙ ap (take max) (append_assoc rows (rows_in k.entries part range) (rows_in left part range))
-      ∙ ap (λ l. take max (rows ++ l)) (sym (rows_in-append part range k.entries left) ∙
-      ap (λ es. rows_in es part range) (sym whole))
+  pub rows_next : (ks : List Shape) (i : ℕ) (k : Shape) → i < length ks → k ≡ get_or ks i k →
+      rows_in (all_entries (drop i ks)) part range ≡ rows_in k.entries part range ++
+      rows_in (all_entries (drop (i + 1) ks)) part range
+  rows_next ks i k lt here = ap (λ es. rows_in es part range) (rest_cut ks i k lt here) ∙
+      rows_in-append part range k.entries (all_entries (drop (suc i) ks)) ∙
+      ap (λ (n : ℕ). rows_in k.entries part range ++ rows_in (all_entries (drop n ks)) part range) (sym (add-one i))
 
   -- none is left where the next child begins above the range
   pub no_rows_left : (d : ℕ) (ls : List Separator) (ks : List Shape) → AreChildren d ls ks → (i : ℕ) (l : Separator) →
@@ -217,12 +258,7 @@ module _ (part : ℕ) (range : Interval) where
       (sym here) (none_below_rest part range.hi ls ks i l c.parted c.filled lt)))
     where
       from_above : (a p e : Place) → is_le (place_cmp a p) ≡ false → place_cmp e a ≢ Less → place_cmp e p ≡ Greater
-      from_above a p e past h = above_through e a p h (greater (place_cmp a p) past)
-        where
-          greater : (o : Ordering) → is_le o ≡ false → o ≡ Greater
-          greater Less n = absurd (cc)
-          greater Equal n = absurd (cc)
-          greater Greater n = refl
+      from_above a p e past h = above_through e a p h (le_false (place_cmp a p) past)
 
   -- ---- from the highest key down
 
@@ -238,23 +274,18 @@ module _ (part : ℕ) (range : Interval) where
       ∙ sym (rows_in-append part range (all_entries (take (suc i) ks)) (all_entries (drop (suc i) ks))) ∙
       ap (λ es. rows_in es part range) (all_entries_cut (suc i) ks)
 
-  pub next_rows_back : (max : ℕ) (rows : Records) (ks : List Shape) (i : ℕ) (k : Shape) → i < length ks →
-      k ≡ get_or ks i k
-      → take max (take max (rows ++ reverse (rows_in k.entries part range)) ++
-      reverse (rows_in (all_entries (take i ks)) part range)) ≡
-      take max (rows ++ reverse (rows_in (all_entries (take (i + 1) ks)) part range))
-  next_rows_back max rows ks i k lt here =
+  pub rows_before : (ks : List Shape) (i n : ℕ) (k : Shape) → i < length ks → k ≡ get_or ks i k → n ≡ i + 1 →
+      reverse (rows_in (all_entries (take n ks)) part range) ≡ reverse (rows_in k.entries part range) ++
+      reverse (rows_in (all_entries (take i ks)) part range)
+  rows_before ks i n k lt here next =
       let left = all_entries (take i ks) in
-      let whole : all_entries (take (i + 1) ks) ≡ left ++ k.entries =
-      ap (λ n. all_entries (take n ks)) (add-one i) ∙ ap all_entries (take-suc ks i k lt)
+      let whole : all_entries (take n ks) ≡ left ++ k.entries =
+      ap (λ (m : ℕ). all_entries (take m ks)) (next ∙ add-one i) ∙ ap all_entries (take-suc ks i k lt)
       ∙ all_entries-append (take i ks) (get_or ks i k ∷ [])
       ∙ ap (λ es. left ++ es) (append-nil (get_or ks i k).entries)
       ∙ ap (λ (s : Shape). left ++ s.entries) (sym here) in
-      take_both max (rows ++ reverse (rows_in k.entries part range)) (reverse (rows_in left part range))
-      ∙ ap (take max) (append_assoc rows (reverse (rows_in k.entries part range)) (reverse (rows_in left part range)))
-      ∙ ap (λ l. take max (rows ++ l)) (sym (ap (λ es. reverse (rows_in es part range)) whole
-      ∙ ap reverse (rows_in-append part range left k.entries)
-      ∙ reverse-append (rows_in left part range) (rows_in k.entries part range)))
+      ap (λ es. reverse (rows_in es part range)) whole ∙ ap reverse (rows_in-append part range left k.entries) ∙
+      reverse-append (rows_in left part range) (rows_in k.entries part range)
 
   -- none is left where the child begins at or below the range
   pub no_rows_before : (d : ℕ) (ls : List Separator) (ks : List Shape) → AreChildren d ls ks → (i : ℕ)

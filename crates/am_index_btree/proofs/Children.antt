@@ -1,10 +1,9 @@
 -- Where a place stands among the children of a node.
-use Rattle.std.proofs.Common.{◌≡◌, ◌≢◌, ℕ, zero, suc, ◌<◌, Bool, true, false, List, [], ◌∷◌, ◌++◌, length, get_or, drop}
-use Rattle.std.proofs.Common.{Some, None, refl, sym, ap, ◌∙◌, inl, inr, ◌⊎◌, if◌then◌else◌, arith}
+use Rattle.std.proofs.Common.{◌≡◌, ◌≢◌, ℕ, Bool, true, false, List, [], ◌∷◌, ◌++◌}
+use Rattle.std.proofs.Common.{Some, None, refl, sym, ◌∙◌, if◌then◌else◌, arith}
 use Rattle.std.specs.declared.cmp.Ordering.{Ordering}
 use Rattle.std.specs.declared.cmp.Ordering.TheVariants.{Less, Equal, Greater}
 use Rattle.std.specs.Ordering.{is_eq}
-use Rattle.std.specs.Option.{option_map}
 use Rattle.std.specs.List.{AllByRecursion}
 use Rattle.std.specs.Cmp.{alike_right}
 use Rattle.am_record.specs.OrderedKey.{OrderedKey}
@@ -12,12 +11,12 @@ use Rattle.am_record.specs.declared.entry.Entry.{Entry}
 use Rattle.am_record.specs.EntryOrder.{Place, place_of, place_cmp, place_cmp-total}
 use Rattle.am_record.proofs.Lists.{AllByRecursion-map, AllByRecursion-append}
 use Rattle.am_record.proofs.PlaceOrder.{turned_less, turned_greater}
-use Rattle.am_index.specs.Entries.{entry_at, find, first_such}
+use Rattle.am_index.specs.Entries.{entry_at, first_such}
 use Rattle.am_index.specs.Places.{AllBelow, NoneBelow, AllAbove}
-use Rattle.am_index.proofs.Lists.{entry_at-append, entry_at_none}
+use Rattle.am_index.proofs.Lists.{entry_at_none}
 use Rattle.am_index_btree.specs.declared.separator.Separator.{Separator}
 use Rattle.am_index_btree.specs.Shape.{Shape}
-use Rattle.am_index_btree.specs.Separators.{separator_place, IsChildFor}
+use Rattle.am_index_btree.specs.Separators.{separator_place}
 use Rattle.am_index_btree.specs.Nodes.{all_entries, AreParted}
 
 below_by : (a b p : Place) (o : Ordering) → place_cmp b p ≡ o → o ≢ Greater → place_cmp a b ≡ Less →
@@ -71,38 +70,3 @@ pub entry_at-front : (part : ℕ) (key : OrderedKey) (xs ys : List Entry) → Al
     entry_at (xs ++ ys) part key ≡ entry_at xs part key
 entry_at-front part key xs ys a = first_such-front (λ e. is_eq (place_cmp (place_of e) (part, key))) xs ys
     (entry_at_none part key ys a)
-
-module _ (part : ℕ) (key : OrderedKey) where
-  abbrev p : Place
-  p = (part, key)
-
-  pub separator_at : (P : Separator → Type 0) (ls : List Separator) (j : ℕ) (d : Separator) → AllByRecursion P ls →
-      j < length ls → P (get_or ls j d)
-  separator_at P [] j d a lt = absurd (omega arith)
-  separator_at P (l ∷ ls) zero d a lt = a.0
-  separator_at P (l ∷ ls) (suc j) d a lt = separator_at P ls j d a.1 (omega arith)
-
-  -- the entry of a place stands in the child for it
-  pub entry_in_child : (ls : List Separator) (ks : List Shape) (i : ℕ) (k : Shape) → AreParted ls ks → i < length ls →
-      k ≡ get_or ks i k
-      → (i ≡ 0) ⊎ ((d : Separator) → place_cmp (separator_place (get_or ls i d)) p ≢ Greater)
-      → AllByRecursion (λ l. place_cmp (separator_place l) p ≡ Greater) (drop (suc i) ls)
-      → entry_at (all_entries ks) part key ≡ entry_at k.entries part key
-  entry_in_child [] ks i k a lt here reached above = absurd (omega arith)
-  entry_in_child (l ∷ ls) [] i k a lt here reached above = absurd (omega (arith, a))
-  entry_in_child (l ∷ ls) (c ∷ ks) zero k a lt here reached above =
-      entry_at-front part key c.entries (all_entries ks) (children_above p ls ks a.2 above) ∙
-      ap (λ (s : Shape). entry_at s.entries part key) (sym here)
-  entry_in_child (l ∷ ls) (c ∷ ks) (suc j) k a lt here (inl none) above = absurd (omega arith)
-  entry_in_child (l ∷ ls) (c ∷ ks) (suc j) k a lt here (inr reached) above =
-      let m = get_or ls j l in
-      let later = separator_at (λ n. AllBelow (separator_place n) c.entries) ls j l a.1 (omega arith) in
-      entry_at-append part key c.entries (all_entries ks)
-      (all_below_through (separator_place m) p c.entries later (reached l))
-      ∙ entry_in_child ls ks j k a.2 (omega arith) here (inr reached) above
-
-  pub find_in_child : (ls : List Separator) (ks : List Shape) (i : ℕ) (k : Shape) → AreParted ls ks →
-      IsChildFor ls part key i → k ≡ get_or ks i k
-      → find (all_entries ks) part key ≡ find k.entries part key
-  find_in_child ls ks i k a c here = ap (option_map (λ (e : Entry). (e.value, e.is_ghost)))
-      (entry_in_child ls ks i k a c.in_range here c.reached c.above)

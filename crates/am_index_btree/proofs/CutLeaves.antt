@@ -1,8 +1,8 @@
 -- Entries that follow one another in a leaf are taken out.
 use Rattle.std.proofs.Common.{◌≡◌, ℕ, zero, suc, ◌+◌, ◌<◌, ◌≤◌, List, [], ◌∷◌, ◌++◌, length, get_or, take, drop, refl}
-use Rattle.std.proofs.Common.{sym, ap, ◌∙◌, length-append, arith}
+use Rattle.std.proofs.Common.{sym, ap, ◌∙◌, arith}
 use Rattle.std.proofs.Math.Seq.{drop-cons}
-use Rattle.std.proofs.lemmas.List.{take-append-drop, length-take-le, drop-drop}
+use Rattle.std.proofs.lemmas.List.{take-append-drop, drop-drop}
 use Rattle.std.specs.List.{remove}
 use Rattle.am_record.specs.OrderedKey.{OrderedKey}
 use Rattle.am_record.specs.EntryOrder.{place_of, place_cmp, place_cmp-exact}
@@ -18,12 +18,6 @@ cut_one zs i [] lt = absurd (omega (arith, lt))
 cut_one zs zero (x ∷ xs) lt = refl
 cut_one zs (suc i) (x ∷ xs) lt = ap (λ l. x ∷ l) (cut_one zs i xs (omega (arith, lt)))
 
-pub cut_length : {X : Type 0} (zs : List X) (i : ℕ) (xs : List X) → i ≤ length xs → i ≤ length (take i xs ++ zs)
-cut_length zs i xs le = omega (arith, length-append (take i xs) zs, length-take-le i xs le)
-
-pub cut_nothing : {X : Type 0} (i : ℕ) (xs : List X) → xs ≡ take i xs ++ drop i xs
-cut_nothing i xs = sym (take-append-drop i xs)
-
 module _ (es : List Entry) (part : ℕ) (key : OrderedKey) (i : ℕ) (found : IsPlaceOf es part key i) (e : Entry)
     (here : e ≡ get_or es i e) (n : ℕ) where
   rest_is : drop i es ≡ e ∷ drop (suc i) es
@@ -36,19 +30,6 @@ module _ (es : List Entry) (part : ℕ) (key : OrderedKey) (i : ℕ) (found : Is
       (place_cmp-exact (place_of e) (part, key) (ap (λ x. place_cmp (place_of x) (part, key)) here ∙ found.here e)))
       ∙ ap (λ l. remove_from l part key n)
       (ap (λ l. take i es ++ l) (sym rest_is) ∙ take-append-drop i es)
-
-pub cut_fewer : {X : Type 0} (xs : List X) (i n : ℕ) → i + n ≤ length xs →
-    length (take i xs ++ drop (i + n) xs) + n ≡ length xs
-cut_fewer xs i n le =
-    let all : length (take (i + n) xs) + length (drop (i + n) xs) ≡ length xs =
-    sym (length-append (take (i + n) xs) (drop (i + n) xs)) ∙ ap length (take-append-drop (i + n) xs) in
-    omega (
-      arith,
-      all,
-      length-take-le (i + n) xs le,
-      length-take-le i xs (omega (arith, le)),
-      length-append (take i xs) (drop (i + n) xs),
-    )
 
 -- where one may be taken out at most, it is the one
 pub just_one : (es : List Entry) (part : ℕ) (key : OrderedKey) (n : ℕ) → 1 ≤ n → n ≤ 1 →

@@ -1,22 +1,23 @@
 -- Entries put among others of a child.
-use Rattle.std.proofs.Common.{◌≡◌, ◌≢◌, ℕ, zero, suc, ◌+◌, ◌<◌, List, [], ◌∷◌, ◌++◌, length, get_or, set, take, drop}
-use Rattle.std.proofs.Common.{true, Option, None, Some, refl, sym, ap, ◌∙◌, subst, length-set, length-drop, arith}
+use Rattle.std.proofs.Common.{◌≡◌, ◌≢◌, ℕ, suc, ◌+◌, ◌<◌, List, [], ◌∷◌, ◌++◌, length, get_or, set, take, drop}
+use Rattle.std.proofs.Common.{true, Option, None, Some, refl, sym, ap, ◌∙◌, subst, length-drop, arith}
 use Rattle.std.proofs.Common.{⊎_elim}
 use Rattle.std.proofs.Common.{inl, inr}
 use Rattle.std.specs.Borrow.{Bor}
-use Rattle.std.specs.Prelude.{not, ◌⊎◌, ◌≤◌, slice_get, option_copied, IsSome}
+use Rattle.std.specs.Prelude.{◌⊎◌, ◌≤◌, slice_get, option_copied, IsSome}
+use Rattle.std.proofs.lemmas.Bool.{not-true}
 use Rattle.std.proofs.lemmas.Option.{slice_get_cases}
 use Rattle.am_record.specs.OrderedKey.{OrderedKey}
 use Rattle.std.proofs.lemmas.List.{length-take-le, drop_all}
 use Rattle.std.specs.declared.cmp.Ordering.{Ordering}
 use Rattle.std.specs.declared.cmp.Ordering.TheVariants.{Less, Equal, Greater}
-use Rattle.std.specs.Ordering.{is_le, ordering_reverse}
+use Rattle.std.specs.Ordering.{ordering_reverse}
 use Rattle.std.specs.Option.{option_map, option_or}
 use Rattle.std.specs.List.{AllByRecursion}
 use Rattle.am_record.specs.declared.entry.Entry.{Entry}
 use Rattle.am_record.specs.EntryOrder.{Place, place_of, place_cmp, place_cmp-total}
 use Rattle.am_record.proofs.Lists.{AllByRecursion-map, AllByRecursion-back, AllByRecursion-take, AllByRecursion-drop}
-use Rattle.am_record.proofs.Lists.{AllByRecursion-at}
+use Rattle.am_record.proofs.Lists.{AllByRecursion-at, AllByRecursion-front}
 use Rattle.am_record.proofs.PlaceOrder.{turned_less, turned_greater, below_same}
 use Rattle.am_index.specs.Entries.{Slot, slot_of, entry_at, find, insert_entry, all_inserted, IsRising}
 use Rattle.am_index.specs.Places.{AllBelow, NoneBelow, AllAbove, IsGapFor}
@@ -25,14 +26,17 @@ use Rattle.am_index.proofs.Lists.{entry_at-append, below_itself, rising_back, ri
 use Rattle.am_index_btree.specs.declared.separator.Separator.{Separator}
 use Rattle.am_index_btree.specs.EntriesBetween.{is_below, IsAtOrAbove, GoesAmong}
 use Rattle.am_index_btree.specs.Shape.{Shape}
-use Rattle.am_index_btree.specs.Rooms.{IsRoomed}
+use Rattle.am_index_btree.specs.Rooms.{KeepsRoom}
 use Rattle.am_index_btree.specs.Separators.{separator_place, SeparatorsRise}
-use Rattle.am_index_btree.specs.Nodes.{all_entries, depth_of, AreParted, IsInner}
+use Rattle.am_index_btree.specs.Nodes.{all_entries, inner_shape, IsInner}
 use Rattle.am_index_btree.proofs.Children.{entry_at-front}
-use Rattle.am_index_btree.proofs.ChildEdits.{all_set}
+use Rattle.am_index_btree.proofs.OneChild.{IsEdited, parted_set, some_there, with_child}
+use Rattle.am_index_btree.proofs.ChildWalks.{children_cut, children_set}
+use Rattle.am_index_btree.proofs.ChildInserts.{own_separator, later_separators}
 use Rattle.am_index_btree.proofs.ChildInserts.{none_below_above, insert_entry-front, insert_entry-back, insert_some}
-use Rattle.am_index_btree.proofs.Inner.{as_many}
-use Rattle.am_index_btree.proofs.ChildHalves.{all_both, all_in_each, all_entries_cut, depth_level, inner_with}
+use Rattle.am_index_btree.proofs.Inner.{as_many, over_children}
+use Rattle.am_index_btree.proofs.SeparatorReach.{le_false}
+use Rattle.am_index_btree.proofs.ChildHalves.{all_both, all_in_each, all_entries_cut}
 use Rattle.am_index_btree.proofs.ChildHalves.{separators_apart}
 use Rattle.am_index_btree.proofs.ChildHalves.{separators_rise, some_entries, parted_cut, get_dropped, AreParted-drop}
 
@@ -52,16 +56,11 @@ below_from x b m h n = by (place_cmp m b) refl
     by Equal e = below_same x b m h (turned ∙ ap ordering_reverse e)
     by Greater e = place_cmp-total.trans x b m h (turned ∙ ap ordering_reverse e)
 
-not_reached : (o : Ordering) → not (is_le o) ≡ true → o ≡ Greater
-not_reached Less h = absurd (cc h)
-not_reached Equal h = absurd (cc h)
-not_reached Greater h = refl
-
 below_bound : (bound : Option Separator) (x : Entry) (m : Place) → is_below bound x ≡ true → IsAtOrAbove bound m →
     place_cmp (place_of x) m ≡ Less
 below_bound None x m low from = absurd from
 below_bound (Some b) x m low from = below_from (place_of x) (separator_place b) m
-    (turned_greater (separator_place b) (place_of x) (not_reached _ low)) from
+    (turned_greater (separator_place b) (place_of x) (le_false _ (not-true _ low))) from
 
 -- what goes after some entries of a list, and before others or below the bound, goes among them
 pub among_gap : (es : List Entry) (bound : Option Separator) (x : Entry) (i : ℕ) → IsGapFor es x.part x.key i → 0 < i →
@@ -158,58 +157,43 @@ above_up : (ks : List Shape) (i : ℕ) (k : Shape) → i < length ks → k ≡ g
     place_cmp l (place_of x) ≡ Less
 above_up ks i k lt here end x b l none = b.above l (of_child (λ e. place_cmp (place_of e) l ≢ Less) ks i k lt here none)
 
-found_among : (ks : List Shape) (i : ℕ) (k : Shape) → i < length ks → k ≡ get_or ks i k → IsRising (all_entries ks) →
-    (end : Option Separator) → AreFrom end (all_entries (drop (suc i) ks)) → (x : Entry) → GoesAmong k.entries end x →
-    entry_at (all_entries ks) x.part x.key ≡ entry_at k.entries x.part x.key
-found_among [] i k lt here rising end from x b = absurd (omega arith)
-found_among (c ∷ ks) zero k lt here rising end from x b =
-    let there = subst (λ (s : Shape). GoesAmong s.entries end x) here b in
-    entry_at-front x.part x.key c.entries (all_entries ks) (above_among c.entries (all_entries ks) end x rising from
-    there) ∙
-    ap (λ (s : Shape). entry_at s.entries x.part x.key) (sym here)
-found_among (c ∷ ks) (suc i) k lt here rising end from x b =
-    entry_at-append x.part x.key c.entries (all_entries ks)
-    (below_among c.entries (all_entries ks) x rising (above_up ks i k (omega arith) here end x b)) ∙
-    found_among ks i k (omega arith) here (rising_back c.entries (all_entries ks) rising) end from x b
+module _ (ks : List Shape) (i : ℕ) (k : Shape) (lt : i < length ks) (here : k ≡ get_or ks i k)
+    (rising : IsRising (all_entries ks)) (end : Option Separator) (from : AreFrom end (all_entries (drop (suc i) ks)))
+  where
+    abbrev before : List Entry
+    before = all_entries (take i ks)
 
-entries_among : (ks : List Shape) (i : ℕ) (k k' : Shape) → i < length ks → k ≡ get_or ks i k →
-    IsRising (all_entries ks) → (end : Option Separator) → AreFrom end (all_entries (drop (suc i) ks)) →
-    (xs : List Entry) → AreAmong k.entries end xs → k'.entries ≡ all_inserted xs k.entries →
-    all_entries (set ks i k') ≡ all_inserted xs (all_entries ks)
-entries_among [] i k k' lt here rising end from xs among h = absurd (omega arith)
-entries_among (c ∷ ks) zero k k' lt here rising end from xs among h =
-    ap (λ es. es ++ all_entries ks) (h ∙ ap (λ (s : Shape). all_inserted xs s.entries) here) ∙
-    sym (inserted_front xs c.entries (all_entries ks)
-    (AllByRecursion-map (GoesAmong k.entries end) (λ x. AllAbove (place_of x) (all_entries ks))
-    (λ x b. above_among c.entries (all_entries ks) end x rising from
-    (subst (λ (s : Shape). GoesAmong s.entries end x) here b)) xs among))
-entries_among (c ∷ ks) (suc i) k k' lt here rising end from xs among h =
-    ap (λ es. c.entries ++ es) (entries_among ks i k k' (omega arith) here
-    (rising_back c.entries (all_entries ks) rising) end from xs among h) ∙
-    sym (inserted_back xs c.entries (all_entries ks)
-    (AllByRecursion-map (GoesAmong k.entries end) (λ x. AllBelow (place_of x) c.entries)
-    (λ x b. below_among c.entries (all_entries ks) x rising (above_up ks i k (omega arith) here end x b)) xs among))
+    abbrev behind : List Entry
+    behind = all_entries (drop (suc i) ks)
 
-parted_among : (ls : List Separator) (ks : List Shape) (i : ℕ) (k k' : Shape) → AreParted ls ks → i < length ks →
-    k ≡ get_or ks i k → (end : Option Separator) →
-    AllByRecursion (λ m. IsAtOrAbove end (separator_place m)) (drop (suc i) ls) → (xs : List Entry) →
-    AreAmong k.entries end xs → k'.entries ≡ all_inserted xs k.entries → AreParted ls (set ks i k')
-parted_among ls [] i k k' a lt here end from xs among h = absurd (omega arith)
-parted_among [] (c ∷ ks) i k k' a lt here end from xs among h = absurd (omega (arith, a))
-parted_among (l ∷ ls) (c ∷ ks) zero k k' a lt here end from xs among h =
-    let own : NoneBelow (separator_place l) k.entries =
-    subst (λ (s : Shape). NoneBelow (separator_place l) s.entries) (sym here) a.0 in
-    let later : AllByRecursion (λ m. AllBelow (separator_place m) k.entries) ls =
-    subst (λ (s : Shape). AllByRecursion (λ m. AllBelow (separator_place m) s.entries) ls) (sym here) a.1 in (
-      subst (NoneBelow (separator_place l)) (sym h) (none_below_among k.entries end xs among (separator_place l) own),
-      all_both (λ m. AllBelow (separator_place m) k.entries) (λ m. IsAtOrAbove end (separator_place m))
-          (λ m. AllBelow (separator_place m) k'.entries)
-          (λ m b out. subst (AllBelow (separator_place m)) (sym h)
-          (all_below_among k.entries end xs among (separator_place m) b out)) ls later from,
-      a.2,
-    )
-parted_among (l ∷ ls) (c ∷ ks) (suc i) k k' a lt here end from xs among h =
-    (a.0, a.1, parted_among ls ks i k k' a.2 (omega arith) here end from xs among h)
+    whole : all_entries ks ≡ before ++ (k.entries ++ behind)
+    whole = children_cut ks i k lt here
+
+    cut_rise : IsRising (before ++ (k.entries ++ behind))
+    cut_rise = subst IsRising whole rising
+
+    before_below : (x : Entry) → GoesAmong k.entries end x → AllBelow (place_of x) before
+    before_below x b = below_among before (k.entries ++ behind) x cut_rise
+        (λ l none. b.above l (AllByRecursion-front (λ e. place_cmp (place_of e) l ≢ Less) k.entries behind none))
+
+    behind_above : (x : Entry) → GoesAmong k.entries end x → AllAbove (place_of x) behind
+    behind_above x = above_among k.entries behind end x (rising_back before (k.entries ++ behind) cut_rise) from
+
+    found_among : (x : Entry) → GoesAmong k.entries end x →
+        entry_at (all_entries ks) x.part x.key ≡ entry_at k.entries x.part x.key
+    found_among x b =
+        ap (λ es. entry_at es x.part x.key) whole ∙
+        entry_at-append x.part x.key before (k.entries ++ behind) (before_below x b) ∙
+        entry_at-front x.part x.key k.entries behind (behind_above x b)
+
+    entries_among : (k' : Shape) (xs : List Entry) → AreAmong k.entries end xs →
+        k'.entries ≡ all_inserted xs k.entries → all_entries (set ks i k') ≡ all_inserted xs (all_entries ks)
+    entries_among k' xs among h =
+        children_set ks i k' lt ∙ ap (λ es. before ++ (es ++ behind)) h
+        ∙ ap (λ es. before ++ es) (sym (inserted_front xs k.entries behind (AllByRecursion-map (GoesAmong k.entries end)
+        (λ x. AllAbove (place_of x) behind) behind_above xs among)))
+        ∙ sym (ap (all_inserted xs) whole ∙ inserted_back xs before (k.entries ++ behind) (AllByRecursion-map
+        (GoesAmong k.entries end) (λ x. AllBelow (place_of x) before) before_below xs among))
 
 -- ---- where a child ends
 
@@ -320,34 +304,20 @@ module _ (ls : List Separator) (ks : List Shape) (rk : ℕ) (inner : IsInner ls 
       (λ x b f. ap (option_map slot_of) (found_among ks i k lt here inner.children.rising end is_end.entries x b) ∙ f)
       xs among free
 
-  module _ (k' : Shape) (deep : k'.depth ≡ k.depth) (h : k'.entries ≡ all_inserted xs k.entries) where
-    pub put_entries : all_entries (set ks i k') ≡ all_inserted xs (all_entries ks)
-    put_entries = entries_among ks i k k' lt here inner.children.rising end is_end.entries xs among h
-
-    level : AllByRecursion (λ (j : Shape). j.depth + 1 ≡ depth_of ks) (set ks i k')
-    level =
-        let old = subst (λ (s : Shape). s.depth + 1 ≡ depth_of ks) (sym here)
-        (AllByRecursion-at (λ (j : Shape). j.depth + 1 ≡ depth_of ks) ks i k inner.children.level lt) in
-        all_set (λ (j : Shape). j.depth + 1 ≡ depth_of ks) ks i k' inner.children.level (omega (arith, old, deep))
-
-    pub put_depth : depth_of (set ks i k') ≡ depth_of ks
-    put_depth = depth_level (depth_of ks) (set ks i k') (omega (arith, lt, length-set ks i k')) level
-
-    filled : AllByRecursion (λ (j : Shape). 0 < length j.entries) ks →
-        AllByRecursion (λ (j : Shape). 0 < length j.entries) (set ks i k')
-    filled all = all_set (λ (j : Shape). 0 < length j.entries) ks i k' all
-        (subst (λ es. 0 < length es) (sym h) (some_inserted xs k.entries
-        (subst (λ (s : Shape). 0 < length s.entries) (sym here)
-        (AllByRecursion-at (λ (j : Shape). 0 < length j.entries) ks i k all lt))))
-
-    pub put_inner : IsRising xs → AllFree k.entries xs → IsRoomed k' → IsInner ls (set ks i k') rk
-    put_inner rise free roomed =
-        let same = length-set ks i k' in
-        inner_with (depth_of ks) ls (set ks i k') ls (set ks i k') rk refl refl (record {
-          level = level;
-          filled = (λ more. filled (inner.children.filled (omega (arith, more, same))));
-          parted = parted_among ls ks i k k' inner.children.parted lt here end is_end.separators xs among h;
-          roomed = all_set (λ (j : Shape). IsRoomed j) ks i k' inner.children.roomed roomed;
-          rising = subst IsRising (sym put_entries)
-              (rising_all_inserted xs (all_entries ks) rise (all_free free) inner.children.rising);
-        }) (omega (arith, same, inner.some)) (omega (arith, same, inner.most)) inner.room
+  pub put : (k' : Shape) → k'.depth ≡ k.depth → k'.entries ≡ all_inserted xs k.entries → IsRising xs →
+      AllFree k.entries xs → KeepsRoom k k' → IsEdited (inner_shape ks) ls (set ks i k') rk (all_inserted xs)
+  put k' deep h rise free keeps =
+      let c = inner.children in let node = over_children inner in
+      let within : i < length ls = omega (arith, lt, as_many ls ks rk inner) in
+      with_child node i k lt here (all_inserted xs) k' deep
+      (parted_set i ls ks k' c.parted within
+      (λ d. subst (NoneBelow (separator_place (get_or ls i d))) (sym h) (none_below_among k.entries end xs among
+      (separator_place (get_or ls i d)) (own_separator i ls ks k d c.parted within here)))
+      (all_both (λ m. AllBelow (separator_place m) k.entries) (λ m. IsAtOrAbove end (separator_place m))
+      (λ m. AllBelow (separator_place m) k'.entries)
+      (λ m b out. subst (AllBelow (separator_place m)) (sym h) (all_below_among k.entries end xs among
+      (separator_place m) b out)) (drop (suc i) ls) (later_separators i ls ks k c.parted within here)
+      is_end.separators))
+      (entries_among ks i k lt here c.rising end is_end.entries k' xs among h)
+      (rising_all_inserted xs (all_entries ks) rise (all_free free) c.rising) keeps
+      (λ more. subst (λ es. 0 < length es) (sym h) (some_inserted xs k.entries (some_there node i k lt here more)))

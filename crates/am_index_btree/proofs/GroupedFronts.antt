@@ -2,7 +2,7 @@
 use Rattle.std.proofs.Common.{◌≡◌, ℕ, zero, suc, ◌+◌, ◌<◌, ◌≤◌, List, [], ◌∷◌, length, get_or, take, drop}
 use Rattle.std.proofs.Common.{nat_lt, cond, refl, arith}
 use Rattle.std.proofs.lemmas.Bool.{cond-true, cond-false, lt-ltb, le-ltb}
-use Rattle.std.proofs.lemmas.List.{get_or-drop, length-drop}
+use Rattle.std.proofs.lemmas.List.{get_or-drop, get_or_default, length-drop}
 use Rattle.std.proofs.lemmas.List.Sums.{sum_by-cons}
 use Rattle.std.specs.List.{AllByRecursion, count_by}
 use Rattle.am_record.proofs.Lists.{AllByRecursion-at}
@@ -21,15 +21,12 @@ module _ (front : ℕ) (fs : List ℕ) (rise : FrontsRise fs) where
   pub below_to : (n d : ℕ) → suc n ≤ length fs → get_or fs n 0 < front →
       AllByRecursion (λ other. other < front) (take (suc n) fs)
   below_to n d within h = all_take (λ other. other < front) fs (suc n) within
-      (λ k e lt. omega (arith, h, same k e lt, no_less fs rise k n 0 (omega (arith, lt)) (omega (arith, within))))
-    where
-      same : (k e : ℕ) → k < suc n → get_or fs k e ≡ get_or fs k 0
-      same k e lt = at fs k e (omega (arith, lt, within))
-        where
-          at : (xs : List ℕ) (k e : ℕ) → k < length xs → get_or xs k e ≡ get_or xs k 0
-          at [] k e l = absurd (omega arith)
-          at (x ∷ xs) zero e l = refl
-          at (x ∷ xs) (suc k) e l = at xs k e (omega arith)
+      (λ k e lt. omega (
+        arith,
+        h,
+        get_or_default fs k e 0 (omega (arith, lt, within)),
+        no_less fs rise k n 0 (omega (arith, lt)) (omega (arith, within)),
+      ))
 
   -- where one isn't, no later one is
   pub above_from : (passed : ℕ) → (passed + 7 < length fs → front ≤ get_or fs (passed + 7) 0) →
@@ -39,15 +36,13 @@ module _ (front : ℕ) (fs : List ℕ) (rise : FrontsRise fs) where
       let within : passed + k < length fs = omega (arith, lt, length-drop passed fs) in
       let last = h (omega (arith, le, within)) in
       let more = no_less fs rise (passed + 7) (passed + k) d (omega (arith, le)) within in
-      omega (arith, last, more, get_or-drop passed fs k d, same (passed + 7) d (omega (arith, le, within))))
-    where
-      same : (k e : ℕ) → k < length fs → get_or fs k e ≡ get_or fs k 0
-      same k e lt = at fs k e lt
-        where
-          at : (xs : List ℕ) (k e : ℕ) → k < length xs → get_or xs k e ≡ get_or xs k 0
-          at [] k e l = absurd (omega arith)
-          at (x ∷ xs) zero e l = refl
-          at (x ∷ xs) (suc k) e l = at xs k e (omega arith)
+      omega (
+        arith,
+        last,
+        more,
+        get_or-drop passed fs k d,
+        get_or_default fs (passed + 7) d 0 (omega (arith, le, within)),
+      ))
 
 module _ (front : ℕ) where
   abbrev lower : List ℕ → ℕ

@@ -1,21 +1,24 @@
 -- Entries put after those of a node's last child.
-use Rattle.std.proofs.Common.{◌≡◌, ◌≢◌, ℕ, zero, suc, ◌+◌, ◌<◌, List, [], ◌∷◌, ◌++◌, length, get_or, set, refl, sym, ap}
-use Rattle.std.proofs.Common.{◌∙◌, subst, append-nil, append_assoc, length-append, length-set, arith}
+use Rattle.std.proofs.Common.{◌≡◌, ◌≢◌, ℕ, zero, suc, ◌<◌, List, [], ◌∷◌, ◌++◌, length, get_or, set, take, drop, sym}
+use Rattle.std.proofs.Common.{ap, ◌∙◌, subst, append-nil, append_assoc, length-append, arith}
+use Rattle.std.proofs.lemmas.List.{drop_all}
 use Rattle.std.specs.declared.cmp.Ordering.TheVariants.{Less}
 use Rattle.std.specs.List.{AllByRecursion}
 use Rattle.am_record.specs.declared.entry.Entry.{Entry}
 use Rattle.am_record.specs.EntryOrder.{Place, place_of, place_cmp, place_cmp-total}
 use Rattle.am_record.proofs.Lists.{AllByRecursion-map, AllByRecursion-at}
 use Rattle.am_index.specs.Entries.{IsRising}
-use Rattle.am_index.specs.Places.{NoneBelow}
+use Rattle.am_index.specs.Places.{AllBelow, NoneBelow}
 use Rattle.am_index.proofs.Lists.{rising_back}
 use Rattle.am_index_btree.specs.declared.separator.Separator.{Separator}
 use Rattle.am_index_btree.specs.Shape.{Shape}
-use Rattle.am_index_btree.specs.Rooms.{IsRoomed}
+use Rattle.am_index_btree.specs.Rooms.{KeepsRoom}
 use Rattle.am_index_btree.specs.Separators.{separator_place}
-use Rattle.am_index_btree.specs.Nodes.{all_entries, depth_of, AreParted, IsInner}
-use Rattle.am_index_btree.proofs.ChildHalves.{depth_level, inner_with}
-use Rattle.am_index_btree.proofs.ChildEdits.{all_set}
+use Rattle.am_index_btree.specs.Nodes.{all_entries}
+use Rattle.am_index_btree.proofs.Inner.{IsOver}
+use Rattle.am_index_btree.proofs.ChildInserts.{own_separator}
+use Rattle.am_index_btree.proofs.ChildWalks.{children_cut, children_set}
+use Rattle.am_index_btree.proofs.OneChild.{IsEdited, parted_set, with_child}
 
 -- after an entry that is not below a place stands none below it
 none_below_more : (l : Place) (es more : List Entry) → 0 < length es → NoneBelow l es → IsRising (es ++ more) →
@@ -38,78 +41,42 @@ some_last i (c ∷ j ∷ ks) k last here filled some =
     subst (λ (s : Shape). 0 < length s.entries) (sym here)
     (AllByRecursion-at (λ (s : Shape). 0 < length s.entries) (c ∷ j ∷ ks) i k (filled (omega arith)) (omega arith))
 
-rising_last : (i : ℕ) (ks : List Shape) (k : Shape) (more : List Entry) → suc i ≡ length ks → k ≡ get_or ks i k →
-    IsRising (all_entries ks ++ more) → IsRising (k.entries ++ more)
-rising_last i [] k more last here rising = absurd (omega arith)
-rising_last zero (c ∷ []) k more last here rising =
-    subst (λ (s : Shape). IsRising (s.entries ++ more)) (sym here)
-    (subst (λ es. IsRising (es ++ more)) (append-nil c.entries) rising)
-rising_last zero (c ∷ j ∷ ks) k more last here rising = absurd (omega arith)
-rising_last (suc i) (c ∷ ks) k more last here rising =
-    rising_last i ks k more (omega arith) here (rising_back c.entries (all_entries ks ++ more)
-    (subst IsRising (append_assoc c.entries (all_entries ks) more) rising))
+-- a subtree over an inner node, to whose last child more entries come
+module _ {s : Shape} {ls : List Separator} {ks : List Shape} {rk : ℕ} (node : IsOver s ls ks rk) (i : ℕ) (k : Shape)
+    (last : suc i ≡ length ks) (here : k ≡ get_or ks i k) (more : List Entry) (some : 0 < length s.entries)
+    (rising : IsRising (s.entries ++ more)) where
+  abbrev before : List Entry
+  before = all_entries (take i ks)
 
-entries_more : (i : ℕ) (ks : List Shape) (k k' : Shape) (more : List Entry) → suc i ≡ length ks → k ≡ get_or ks i k →
-    k'.entries ≡ k.entries ++ more → all_entries (set ks i k') ≡ all_entries ks ++ more
-entries_more i [] k k' more last here h = absurd (omega arith)
-entries_more zero (c ∷ []) k k' more last here h =
-    append-nil k'.entries ∙ h ∙ ap (λ (s : Shape). s.entries ++ more) here ∙
-    ap (λ es. es ++ more) (sym (append-nil c.entries))
-entries_more zero (c ∷ j ∷ ks) k k' more last here h = absurd (omega arith)
-entries_more (suc i) (c ∷ ks) k k' more last here h =
-    ap (λ es. c.entries ++ es) (entries_more i ks k k' more (omega arith) here h) ∙
-    sym (append_assoc c.entries (all_entries ks) more)
+  ends : (es : List Entry) → before ++ (es ++ all_entries (drop (suc i) ks)) ≡ before ++ es
+  ends es = ap (λ (l : List Shape). before ++ (es ++ all_entries l)) (drop_all (suc i) ks (omega (arith, last))) ∙
+      ap (λ l. before ++ l) (append-nil es)
 
-parted_more : (i : ℕ) (ls : List Separator) (ks : List Shape) (k k' : Shape) (more : List Entry) → AreParted ls ks →
-    suc i ≡ length ks → k ≡ get_or ks i k → k'.entries ≡ k.entries ++ more
-    → 0 < length k.entries → IsRising (k.entries ++ more) → AreParted ls (set ks i k')
-parted_more i ls [] k k' more a last here h some rising = absurd (omega arith)
-parted_more i [] (c ∷ ks) k k' more a last here h some rising = absurd (omega (arith, a))
-parted_more zero (l ∷ m ∷ ls) (c ∷ []) k k' more a last here h some rising = absurd (omega (arith, a.2))
-parted_more zero (l ∷ ls) (c ∷ j ∷ ks) k k' more a last here h some rising = absurd (omega arith)
-parted_more zero (l ∷ []) (c ∷ []) k k' more a last here h some rising =
-    let own = subst (λ (s : Shape). NoneBelow (separator_place l) s.entries) (sym here) a.0 in (
-      subst (NoneBelow (separator_place l)) (sym h)
-          (none_below_more (separator_place l) k.entries more some own rising),
-      tt,
-      tt,
-    )
-parted_more (suc i) (l ∷ ls) (c ∷ ks) k k' more a last here h some rising =
-    (a.0, a.1, parted_more i ls ks k k' more a.2 (omega arith) here h some rising)
+  whole : all_entries ks ≡ before ++ k.entries
+  whole = children_cut ks i k (omega (arith, last)) here ∙ ends k.entries
 
--- an inner node, whose last child has more entries now
-module _ (ls : List Separator) (ks : List Shape) (rk : ℕ) (inner : IsInner ls ks rk) (i : ℕ) (k : Shape)
-    (more : List Entry) (last : suc i ≡ length ks) (here : k ≡ get_or ks i k) (some : 0 < length (all_entries ks))
-    (rising : IsRising (all_entries ks ++ more)) where
+  all_rise : IsRising (all_entries ks ++ more)
+  all_rise = subst (λ (t : Shape). IsRising (t.entries ++ more)) node.seen rising
+
   pub last_some : 0 < length k.entries
-  last_some = some_last i ks k last here inner.children.filled some
+  last_some = some_last i ks k last here node.inner.children.filled
+      (subst (λ (t : Shape). 0 < length t.entries) node.seen some)
 
   pub last_rises : IsRising (k.entries ++ more)
-  last_rises = rising_last i ks k more last here rising
+  last_rises = rising_back before (k.entries ++ more)
+      (subst IsRising (ap (λ es. es ++ more) whole ∙ append_assoc before k.entries more) all_rise)
 
-  module _ (k' : Shape) (deep : k'.depth ≡ k.depth) (h : k'.entries ≡ k.entries ++ more) where
-    pub more_entries : all_entries (set ks i k') ≡ all_entries ks ++ more
-    more_entries = entries_more i ks k k' more last here h
-
-    level : AllByRecursion (λ (j : Shape). j.depth + 1 ≡ depth_of ks) (set ks i k')
-    level =
-        let old = subst (λ (s : Shape). s.depth + 1 ≡ depth_of ks) (sym here)
-        (AllByRecursion-at (λ (j : Shape). j.depth + 1 ≡ depth_of ks) ks i k inner.children.level
-        (omega arith)) in
-        all_set (λ (j : Shape). j.depth + 1 ≡ depth_of ks) ks i k' inner.children.level (omega (arith, old, deep))
-
-    pub more_depth : depth_of (set ks i k') ≡ depth_of ks
-    more_depth = depth_level (depth_of ks) (set ks i k') (omega (arith, length-set ks i k')) level
-
-    pub more_inner : IsRoomed k' → IsInner ls (set ks i k') rk
-    more_inner roomed =
-        let same = length-set ks i k' in
-        inner_with (depth_of ks) ls (set ks i k') ls (set ks i k') rk refl refl (record {
-          level = level;
-          filled = (λ lt. all_set (λ (j : Shape). 0 < length j.entries) ks i k'
-              (inner.children.filled (omega (arith, lt, same)))
-              (omega (arith, last_some, ap length h, length-append k.entries more)));
-          parted = parted_more i ls ks k k' more inner.children.parted last here h last_some last_rises;
-          roomed = all_set (λ (j : Shape). IsRoomed j) ks i k' inner.children.roomed roomed;
-          rising = subst IsRising (sym more_entries) rising;
-        }) (omega (arith, same)) (omega (arith, same, inner.most)) inner.room
+  pub last_filled : (k' : Shape) → k'.depth ≡ k.depth → k'.entries ≡ k.entries ++ more → KeepsRoom k k' →
+      IsEdited s ls (set ks i k') rk (λ es. es ++ more)
+  last_filled k' deep h keeps =
+      let within : i < length ls = omega (arith, last, node.as_many) in let c = node.inner.children in
+      with_child node i k (omega (arith, last)) here (λ es. es ++ more) k' deep
+      (parted_set i ls ks k' c.parted within
+      (λ d. subst (NoneBelow (separator_place (get_or ls i d))) (sym h) (none_below_more
+      (separator_place (get_or ls i d)) k.entries more last_some (own_separator i ls ks k d c.parted within here)
+      last_rises))
+      (subst (AllByRecursion (λ m. AllBelow (separator_place m) k'.entries))
+      (sym (drop_all (suc i) ls (omega (arith, last, node.as_many)))) tt))
+      (children_set ks i k' (omega (arith, last)) ∙ ends k'.entries ∙ ap (λ es. before ++ es) h ∙
+      sym (ap (λ es. es ++ more) whole ∙ append_assoc before k.entries more)) all_rise keeps
+      (λ _. omega (arith, last_some, ap length h, length-append k.entries more))

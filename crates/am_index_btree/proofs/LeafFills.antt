@@ -1,13 +1,12 @@
 -- Records of a run, put after a leaf's entries one after another.
 use Rattle.std.proofs.Common.{◌≡◌, ℕ, zero, suc, ◌+◌, ◌-◌, ◌≤◌, List, [], ◌∷◌, ◌++◌, length, take, drop, refl, sym, ap}
-use Rattle.std.proofs.Common.{◌∙◌, subst, append_assoc, arith, length-append}
+use Rattle.std.proofs.Common.{◌∙◌, subst, append_assoc, arith}
 use Rattle.std.proofs.lemmas.List.{take_all, length-drop}
 use Rattle.am_record.specs.Plain.{Records}
 use Rattle.am_record.specs.declared.entry.Entry.{Entry}
 use Rattle.am_index.specs.Entries.{IsRising}
 use Rattle.am_index.specs.Runs.{live_entry, run_entries}
 use Rattle.am_index.proofs.Lists.{rising_front}
-use Rattle.am_index.proofs.Runs.{length-front}
 
 module _ (part : ℕ) where
   run_cut : (rs : Records) (i : ℕ) → run_entries part (take i rs) ++ run_entries part (drop i rs) ≡ run_entries part rs
@@ -36,10 +35,6 @@ module _ (part : ℕ) where
 
     pub front_rises : IsRising so_far
     front_rises = rising_front so_far (run_entries part (drop i rs)) rest_rises
-
-    pub filled_long : i ≤ length rs → length so_far ≡ length es + i
-    filled_long le = length-append es (run_entries part (take i rs)) ∙
-        ap (λ (n : ℕ). length es + n) (length-front part rs i le)
 
     -- the records that are left
     abbrev left : Records

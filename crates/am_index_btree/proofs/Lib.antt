@@ -9,6 +9,7 @@ pub mod LeafSplit
 pub mod ChildInserts
 pub mod ChildHalves
 pub mod NewRoots
+pub mod OneChild
 pub mod ChildEdits
 pub mod LastChild
 pub mod LeafFills
@@ -18,8 +19,8 @@ pub mod GroupedFronts
 mod EndPlaces
 pub mod Seeks
 pub mod WiderRooms
+pub mod WaysIn
 pub mod ChildWalks
-pub mod Ghosts
 pub mod Inner
 pub mod SeparatorReach
 pub mod ValueRooms

@@ -15,7 +15,7 @@ use Rattle.am_index_btree.specs.declared.separator.Separator.{Separator}
 use Rattle.am_index_btree.specs.Separators.{separator_place, SeparatorsRise, IsReach}
 use Rattle.am_index_btree.proofs.Children.{below_through}
 
-le_false : (o : Ordering) → is_le o ≡ false → o ≡ Greater
+pub le_false : (o : Ordering) → is_le o ≡ false → o ≡ Greater
 le_false Less e = absurd (cc)
 le_false Equal e = absurd (cc)
 le_false Greater e = refl

@@ -14,8 +14,7 @@ use Rattle.am_index_btree.specs.Shape.{Shape}
 use Rattle.am_index_btree.specs.Rooms.{IsRoomed, KeepsRoom}
 use Rattle.am_index_btree.specs.Nodes.{all_entries, all_roomy, depth_of, inner_shape, IsInner}
 use Rattle.am_index_btree.proofs.EntriesBetween.{AreAmong, IsEnd, inserted_both, still_stands, among_further}
-use Rattle.am_index_btree.proofs.EntriesBetween.{all_among, all_free, put_entries, put_depth, put_inner}
-use Rattle.am_index_btree.proofs.ValueRooms.{keeps_set}
+use Rattle.am_index_btree.proofs.EntriesBetween.{all_among, all_free, put}
 
 -- the first so many of the entries were added below the bound to a node that was seen as that, which has these children
 -- now
@@ -39,8 +38,9 @@ module _ (old : Shape) (have : IsRoomed old) (bound : Option Separator) (more : 
   added_further i k k' lt here end is_end n rise among free h deep keeps =
       let inner = before.inner in let ys = take added more in let xs = take n (drop added more) in
       let both : take (added + n) more ≡ ys ++ xs = take-add added n more in
+      let now = put ls ks rk inner i k lt here bound end is_end xs among k' deep h rise free keeps in
       record {
-        inner = put_inner ls ks rk inner i k lt here bound end is_end xs among k' deep h rise free keeps.have;
+        inner = now.inner;
         among = subst (AreAmong old.entries bound) (sym both)
             (AllByRecursion-append (GoesAmong old.entries bound) ys xs before.among
             (AllByRecursion-map (GoesAmong (all_entries ks) bound) (GoesAmong old.entries bound)
@@ -54,12 +54,11 @@ module _ (old : Shape) (have : IsRoomed old) (bound : Option Separator) (more : 
             (λ x f. free_before ys old.entries x.part x.key
             (ap (λ es. find es x.part x.key) (sym before.entries) ∙ f)) xs
             (all_free ls ks rk inner i k lt here bound end is_end xs among free)));
-        entries = put_entries ls ks rk inner i k lt here bound end is_end xs among k' deep h ∙
-            ap (all_inserted xs) before.entries ∙ sym (inserted_both ys xs old.entries) ∙
+        entries = now.entries ∙ ap (all_inserted xs) before.entries ∙ sym (inserted_both ys xs old.entries) ∙
             ap (λ l. all_inserted l old.entries) (sym both);
-        depth = put_depth ls ks rk inner i k lt here bound end is_end xs among k' deep h ∙ before.depth;
+        depth = now.depth ∙ before.depth;
         rooms = keep_on old.roomy (all_roomy ks) (all_roomy (set ks i k')) (all_entries ks) (all_entries (set ks i k'))
-            before.rooms (keeps_set ks i k inner.children.rising inner.children.roomed lt here k' keeps)
+            before.rooms now.rooms
             (λ part key stood stands. subst (λ es. IsSome (find es part key)) (sym before.entries)
             (still_stands ys old.entries part key (have.places part key stood)));
       }

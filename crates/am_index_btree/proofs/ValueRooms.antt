@@ -30,7 +30,11 @@ use Rattle.am_index_btree.specs.declared.node.Node.TheVariants.{Leaf, Inner}
 use Rattle.am_index_btree.specs.InsertResults.{RoomIsSplit}
 use Rattle.am_index_btree.proofs.ChildInserts.{in_place, all_in_place}
 use Rattle.am_index_btree.proofs.ChildHalves.{all_entries-append, all_entries_cut}
-use Rattle.am_index_btree.proofs.ChildEdits.{remove_set}
+
+pub remove_set : {X : Type 0} (xs : List X) (i : ℕ) (y : X) → remove (set xs i y) i ≡ remove xs i
+remove_set [] i y = refl
+remove_set (x ∷ xs) zero y = refl
+remove_set (x ∷ xs) (suc i) y = ap (λ l. x ∷ l) (remove_set xs i y)
 
 -- ---- what stands in two lists, one after the other
 

@@ -1,26 +1,20 @@
 -- Room for values that was got below a node.
-use Rattle.std.proofs.Common.{◌≡◌, ℕ, zero, suc, ◌<◌, ◌≤◌, true, List, [], ◌∷◌, ◌++◌, length, get_or, set, Option, None}
+use Rattle.std.proofs.Common.{◌≡◌, ℕ, ◌≤◌, true, List, ◌++◌, Option, None}
 use Rattle.std.proofs.Common.{Some}
-use Rattle.std.proofs.Common.{Result, Ok, Err, IfOk, OnErr, IsSome, refl, sym, ap, ◌∙◌, subst, length-set, append-nil}
+use Rattle.std.proofs.Common.{Result, Ok, Err, IfOk, OnErr, IsSome, refl, sym, ap, ◌∙◌, subst}
 use Rattle.std.proofs.Common.{arith}
 use Rattle.am_record.specs.OrderedKey.{OrderedKey}
 use Rattle.am_record.specs.declared.entry.Entry.{Entry}
-use Rattle.am_record.proofs.Lists.{AllByRecursion-at}
 use Rattle.am_index.specs.Entries.{find, insert_entry}
-use Rattle.am_index.specs.Rooms.{is_among, HasRoom, KeepRoom}
+use Rattle.am_index.specs.Rooms.{is_among, KeepRoom}
 use Rattle.am_index.proofs.Rooms.{among_all, keep_all, keep_on}
 use Rattle.am_index_leaf.specs.LeafCode.{Seen, Widened, ValuesHaveRoom}
-use Rattle.am_index_btree.specs.declared.separator.Separator.{Separator}
 use Rattle.am_index_btree.specs.declared.insert.Split.{Split}
 use Rattle.am_index_btree.specs.Shape.{Shape}
 use Rattle.am_index_btree.specs.Rooms.{IsRoomed, KeepsRoom, IsWidened}
-use Rattle.am_index_btree.specs.InsertResults.{Grows, NowHolds, NowRoomed, RoomIsSplit}
-use Rattle.am_index_btree.specs.Separators.{IsChildFor}
-use Rattle.am_index_btree.specs.Nodes.{depth_of, all_entries, all_roomy, leaf_roomy, leaf_shape, inner_shape, IsInner}
-use Rattle.am_index_btree.proofs.ChildEdits.{staying, kept_inner, kept_entries, kept_depth}
-use Rattle.am_index_btree.proofs.Inner.{as_many}
-use Rattle.am_index_btree.proofs.ValueRooms.{among_wide, wide_from, leaf_keeps, roomy_wide, keeps_set, room_child}
-use Rattle.am_index_btree.proofs.ValueRooms.{room_up}
+use Rattle.am_index_btree.specs.InsertResults.{Grows, NowHolds, NowRoomed}
+use Rattle.am_index_btree.specs.Nodes.{leaf_roomy, leaf_shape}
+use Rattle.am_index_btree.proofs.ValueRooms.{among_wide, wide_from, leaf_keeps, roomy_wide}
 
 -- ---- a leaf
 
@@ -81,53 +75,6 @@ now_after old mid new d (Some s) keep holds more = record {
   roomed = more.roomed;
   right_roomed = more.right_roomed;
 }
-
--- a new root over the two halves of the old one
-pub root_keeps : (old left right : Shape) → RoomIsSplit old left right →
-    KeepsRoom old (inner_shape (left ∷ right ∷ []))
-root_keeps old left right split =
-    subst (λ rs. KeepRoom old.roomy (left.roomy ++ rs) (all_entries (left ∷ right ∷ []))) (sym (append-nil right.roomy))
-    (subst (λ es. KeepRoom old.roomy (left.roomy ++ right.roomy) (left.entries ++ es)) (sym (append-nil right.entries))
-    split.kept)
-
-get_set : (ks : List Shape) (i : ℕ) (k : Shape) → i < length ks → k ≡ get_or (set ks i k) i k
-get_set [] i k lt = absurd (omega arith)
-get_set (c ∷ ks) zero k lt = refl
-get_set (c ∷ ks) (suc i) k lt = get_set ks i k (omega arith)
-
--- a node, below one of whose children room was got
-module _ (part : ℕ) (key : OrderedKey) (ls : List Separator) (ks : List Shape) (rk : ℕ) (inner : IsInner ls ks rk)
-    (i : ℕ) (child : IsChildFor ls part key i) (k : Shape) (here : k ≡ get_or ks i k) where
-  within : i < length ks
-  within = omega (arith, child.in_range, as_many ls ks rk inner)
-
-  module _ (k' : Shape) (w : IsWidened k k') where
-    filled : 1 < length ks → 0 < length k'.entries
-    filled more = subst (λ es. 0 < length es) (sym w.entries) (subst (λ (s : Shape). 0 < length s.entries) (sym here)
-        (AllByRecursion-at (λ (j : Shape). 0 < length j.entries) ks i k (inner.children.filled more) within))
-
-    pub widened_inner : IsInner ls (set ks i k') rk
-    widened_inner = kept_inner part key (λ es. es) (staying part key k.entries) (depth_of ks) ls ks i k k'
-        inner.children
-        child here w.depth refl w.entries rk w.room.have filled inner.most inner.room
-
-    pub widened_all : IsWidened (inner_shape ks) (inner_shape (set ks i k'))
-    widened_all = record {
-      depth = kept_depth part key (λ es. es) (staying part key k.entries) (depth_of ks) ls ks i k k' inner.children
-          child here w.depth refl w.entries;
-      entries = kept_entries part key (λ es. es) (staying part key k.entries) (depth_of ks) ls ks i k k' inner.children
-          child here w.depth refl w.entries;
-      room = keeps_set ks i k inner.children.rising inner.children.roomed within here k' w.room;
-    }
-
-    pub room_got : (bytes : ℕ) → HasRoom k'.roomy part key bytes → HasRoom (all_roomy (set ks i k')) part key bytes
-    room_got bytes has = room_up part key (set ks i k') i k' bytes (omega (arith, within, length-set ks i k'))
-        (get_set ks i k' within) has
-
-  pub no_room : (bytes : ℕ) → IsSome (find k.entries part key) → (HasRoom k.roomy part key bytes → ⊥) →
-      HasRoom (all_roomy ks) part key bytes → ⊥
-  no_room bytes stands none has = none (room_child part key ks i k bytes inner.children.rising inner.children.roomed
-      within here stands has)
 
 -- ---- what is said of a result
 

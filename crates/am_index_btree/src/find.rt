@@ -68,12 +68,22 @@ impl Subtree {
         (Some((entry.value, entry.is_ghost)), spot.hint)
     }
 
-    // One step on the way to where a place may stand: the index of the child, and the child; at a leaf the index there.
-    fn step(&self, sought: Sought) -> (usize, Option<&Subtree>) {
+    // How many of a node's children, or of a leaf's entries, a place may stand behind, as far as the last of each eight
+    // tells.
+    fn pass_groups(&self, sought: Sought) -> usize {
         match &self.node {
-            Node::Leaf(leaf) => (leaf.guess(sought.part, sought.key_front), None),
+            Node::Leaf(leaf) => leaf.pass_groups(sought.part, sought.key_front),
+            Node::Inner(separators, _) => separators.pass_groups(sought.front),
+        }
+    }
+
+    // One step on the way to where a place may stand, behind what was passed: the index of the child, and the child; at
+    // a leaf the index there.
+    fn step(&self, passed: usize, sought: Sought) -> (usize, Option<&Subtree>) {
+        match &self.node {
+            Node::Leaf(leaf) => (leaf.guess(passed, sought.part, sought.key_front), None),
             Node::Inner(separators, children) => {
-                let at = separators.guess(sought.front);
+                let at = separators.guess(passed, sought.front);
                 (at, Some(&children[at]))
             }
         }
@@ -118,10 +128,11 @@ impl Sought {
     }
 }
 
-// How far a place was looked for: the node to which that came, and the hint so far.
+// How far a place was looked for: the node to which that came, what was passed there, and the hint so far.
 #[derive(Clone, Copy)]
 struct Way<'a> {
     node: &'a Subtree,
+    passed: usize,
     hint: Hint,
     sought: Sought,
 }
@@ -130,32 +141,38 @@ impl<'a> Way<'a> {
     fn from(node: &'a Subtree) -> Way<'a> {
         Way {
             node,
+            passed: 0,
             hint: Hint::none(),
             sought: Sought::from(0, Key::least()),
         }
     }
 
+    // The groups of its node that the place may stand behind are passed.
+    fn pass_groups(self) -> Way<'a> {
+        Way {
+            passed: self.node.pass_groups(self.sought),
+            ..self
+        }
+    }
+
     // One step further down to the place. Whether it goes on from there.
     fn step(self, depth: u32) -> (Way<'a>, bool) {
-        let Way { node, hint, sought } = self;
-        let (at, below) = node.step(sought);
-        let hint = hint.with_step(depth, at);
-        match below {
-            Some(child) => (
-                Way {
-                    node: child,
-                    hint,
-                    sought,
-                },
-                true,
-            ),
-            None => (Way { node, hint, sought }, false),
-        }
+        let (at, below) = self.node.step(self.passed, self.sought);
+        let further = Way {
+            node: below.unwrap_or(self.node),
+            hint: self.hint.with_step(depth, at),
+            ..self
+        };
+        (further, below.is_some())
     }
 }
 
-// One step further down to each of the places. Whether it goes on from there.
+// One step further down to each of the places. Whether it goes on from there. No way waits for the memory of another's
+// groups, since all are asked for before any is looked into.
 fn step_all(ways: &mut [Way], depth: u32) -> bool {
+    for way in ways.iter_mut() {
+        *way = way.pass_groups();
+    }
     let mut goes_on = false;
     for way in ways.iter_mut() {
         let (further, is_inner) = way.step(depth);

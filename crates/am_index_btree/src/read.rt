@@ -1,13 +1,16 @@
 //! Walks from a place on.
 
 ghost use Rattle.std.specs.Prelude.{◌≡◌, ◌<◌, ◌≤◌, ◌++◌, length, take, reverse, slice_get, OnOk, OnErr, vec_capacity};
-ghost use Rattle.am_index.specs.Entries.{first_such, next_ghost, IsRising};
+ghost use Rattle.std.specs.Prelude.{option_copied};
+ghost use Rattle.am_index.specs.Entries.{IsRising};
 ghost use Rattle.am_index.specs.Content.{rows_in};
 ghost use Rattle.am_index.specs.Places.{IsLowerBound, IsUpperBound};
 ghost use Rattle.am_index_btree.specs.Rooms.{IsRoomed};
-ghost use Rattle.am_index_btree.specs.Seek.{first_from, all_such, IsStart};
+ghost use Rattle.am_index_btree.specs.Seek.{first_from, first_wanted, all_such, IsStart, IsIndexFrom, IsChildFrom};
+ghost use Rattle.am_index_btree.specs.Separators.{SeparatorsRise};
 
 use crate::node::{Node, Subtree};
+use crate::separators::Separators;
 use am_index::{Batch, Hint};
 use am_index_leaf::RawLeaf;
 use am_record::{Entry, Key, NoMemory, Range, Value};
@@ -24,71 +27,55 @@ pub(crate) enum Start {
     Above,
 }
 
+/// Which entries are looked for.
+#[derive(Clone, Copy)]
+pub(crate) enum Wanted {
+    Any,
+    Ghost,
+}
+
+// The place with which a walk over all partitions begins.
+#[derive(Clone, Copy)]
+struct Beginning {
+    part: u32,
+    key: Key,
+    start: Start,
+}
+
 impl Subtree {
-    /// The first entry from the place on, of any partition.
-    pub(crate) fn seek(&self, part: u32, key: Key, start: Start) -> Option<Entry>
-        ensures found { result ≡ first_from start self.now.entries part key }
+    /// The first entry from the place on that is wanted, of any partition.
+    pub(crate) fn first_from(
+        &self,
+        part: u32,
+        key: Key,
+        start: Start,
+        wanted: Wanted,
+    ) -> Option<Entry>
+        ensures found { result ≡ first_from start wanted self.now.entries part key }
         ensures rising { IsRising self.now.entries }
         ensures roomed { IsRoomed self.now }
     {
-        match &self.node {
-            Node::Leaf(leaf) => seek_in_leaf(leaf, part, key, start),
-            Node::Inner(separators, children) => {
-                let at = separators.child_for(part, key);
-                if let Some(entry) = children[at].seek(part, key, start) {
-                    return Some(entry);
-                }
-                if at + 1 == children.len() {
-                    return None;
-                }
-                children[at + 1].first()
-            }
-        }
+        // Read here, the node's invariant is known.
+        let _ = &self.node;
+        self.seek(Some(&Beginning { part, key, start }), wanted)
     }
 
-    /// The first entry.
-    pub(crate) fn first(&self) -> Option<Entry>
-        ensures { result ≡ slice_get self.now.entries 0 }
-    {
-        match &self.node {
-            Node::Leaf(leaf) => entry_at(leaf, 0),
-            Node::Inner(_, children) => children[0].first(),
-        }
-    }
-
-    /// The first ghost from the place on, of any partition. It goes down to the place once, and then from leaf to leaf.
-    pub(crate) fn next_ghost(&self, part: u32, key: Key) -> Option<Entry>
-        ensures found { result ≡ next_ghost self.now.entries part key }
+    // The first entry that is wanted, from there on or of all. It goes down to the place once, and then from leaf to
+    // leaf.
+    fn seek(&self, from: Option<&Beginning>, wanted: Wanted) -> Option<Entry>
+        ensures found { result ≡ first_wanted wanted (option_copied from.entry) self.now.entries }
         ensures rising { IsRising self.now.entries }
     {
         match &self.node {
-            Node::Leaf(leaf) => next_ghost_in_leaf(leaf, part, key),
+            Node::Leaf(leaf) => seek_in_leaf(leaf, from, wanted),
             Node::Inner(separators, children) => {
-                let at = separators.child_for(part, key);
-                if let Some(entry) = children[at].next_ghost(part, key) {
-                    return Some(entry);
-                }
-                for child in &children[at + 1..] {
-                    if let Some(entry) = child.first_ghost() {
+                let mut from = from;
+                for child in &children[child_from(separators, from)..] {
+                    if let Some(entry) = child.seek(from, wanted) {
                         return Some(entry);
                     }
-                }
-                None
-            }
-        }
-    }
-
-    /// The first ghost.
-    pub(crate) fn first_ghost(&self) -> Option<Entry>
-        ensures { result ≡ first_such (λ e. e.is_ghost) self.now.entries }
-    {
-        match &self.node {
-            Node::Leaf(leaf) => leaf.ghost_from(0),
-            Node::Inner(_, children) => {
-                for child in children {
-                    if let Some(entry) = child.first_ghost() {
-                        return Some(entry);
-                    }
+                    // The later children stand behind the place.
+                    from = None;
                 }
                 None
             }
@@ -238,20 +225,41 @@ fn end_back_in_leaf(leaf: &RawLeaf, part: u32, key: Key) -> usize
     start_in_leaf(leaf, part, key, Start::At, Hint::none())
 }
 
-// The first entry of the leaf from the place on.
-fn seek_in_leaf(leaf: &RawLeaf, part: u32, key: Key, start: Start) -> Option<Entry>
-    ensures found { result ≡ first_from start leaf.now.entries part key }
-    ensures rising { IsRising leaf.now.entries }
+// The child with which a walk begins.
+fn child_from(separators: &Separators, from: Option<&Beginning>) -> usize
+    requires rising { SeparatorsRise separators.now }
+    requires some { 0 < length separators.now }
+    ensures { IsChildFrom (option_copied from.entry) separators.now result }
 {
-    entry_at(leaf, start_in_leaf(leaf, part, key, start, Hint::none()))
+    match from {
+        Some(from) => separators.child_for(from.part, from.key),
+        None => 0,
+    }
 }
 
-// The first ghost of the leaf from the place on.
-fn next_ghost_in_leaf(leaf: &RawLeaf, part: u32, key: Key) -> Option<Entry>
-    ensures found { result ≡ next_ghost leaf.now.entries part key }
+// The index in the leaf with which a walk begins.
+fn index_from(leaf: &RawLeaf, from: Option<&Beginning>) -> usize
+    ensures begins { IsIndexFrom (option_copied from.entry) leaf.now.entries result }
     ensures rising { IsRising leaf.now.entries }
 {
-    leaf.ghost_from(start_in_leaf(leaf, part, key, Start::At, Hint::none()))
+    // Asked here, the order of its entries is known.
+    prove!(leaf.len() <= 32);
+    match from {
+        Some(from) => start_in_leaf(leaf, from.part, from.key, from.start, Hint::none()),
+        None => 0,
+    }
+}
+
+// The first entry of the leaf that is wanted, from there on or of all.
+fn seek_in_leaf(leaf: &RawLeaf, from: Option<&Beginning>, wanted: Wanted) -> Option<Entry>
+    ensures found { result ≡ first_wanted wanted (option_copied from.entry) leaf.now.entries }
+    ensures rising { IsRising leaf.now.entries }
+{
+    let at = index_from(leaf, from);
+    match wanted {
+        Wanted::Any => entry_at(leaf, at),
+        Wanted::Ghost => leaf.ghost_from(at),
+    }
 }
 
 // Appends the entries of the partition of a leaf, as many as the batch has room for.

@@ -105,12 +105,22 @@ impl Separators {
         self.reached_near(child, part, key).saturating_sub(1)
     }
 
-    /// A child in which a place of that front may have to be looked for. It may be wrong: fronts alone are looked at.
-    pub(crate) fn guess(&self, front: u64) -> usize
+    /// How many of the first children begin at or below that front, as far as the last of each eight tells.
+    pub(crate) fn pass_groups(&self, front: u64) -> usize
         requires { SeparatorsRise self.now }
+    {
+        fronts_follow_keys();
+        pass_groups(&self.fronts, front.saturating_add(1))
+    }
+
+    /// A child in which a place of that front may have to be looked for, behind the children that were passed. It may
+    /// be wrong: fronts alone are looked at, those of eight children.
+    pub(crate) fn guess(&self, passed: usize, front: u64) -> usize
         ensures { 0 < length self.now → result < length self.now }
     {
-        guess(&self.places, &self.fronts, front)
+        let from = passed.min(self.fronts.len());
+        let lower = count_in_group(&self.fronts[from..], front.saturating_add(1));
+        from.saturating_add(lower).saturating_sub(1)
     }
 
     /// Lets the first child begin at the entry, where none begins at or below it.
@@ -210,16 +220,6 @@ fn begins_last(separators: &[Separator], fronts: &[u64], child: usize, part: u32
         return false;
     }
     child + 1 == len || front < fronts[child + 1]
-}
-
-// The last child whose front isn't above the one.
-fn guess(separators: &[Separator], fronts: &[u64], front: u64) -> usize
-    requires fronts { fronts.now ≡ fronts_of separators.now }
-    requires rising { SeparatorsRise separators.now }
-    ensures { 0 < length separators.now → result < length separators.now }
-{
-    fronts_follow_keys();
-    count_lower(fronts, front.saturating_add(1)).saturating_sub(1)
 }
 
 // How many of the fronts are below the one: those of the groups that are below it, and some of the next.

@@ -7,8 +7,8 @@ use Rattle.am_record.specs.Plain.{Records}
 use Rattle.am_record.specs.declared.entry.Entry.{Entry}
 use Rattle.am_record.proofs.Lists.{AllByRecursion-map, AllByRecursion-append, AllByRecursion-take, AllByRecursion-drop}
 use Rattle.am_index_leaf.specs.Leaf.{entries_of}
-use Rattle.am_index_leaf.specs.Runs.{values_of}
 use Rattle.am_index_leaf.specs.LeafCode.{NoneLonger, ValuesFit}
+use Rattle.am_index_leaf.proofs.ExtendedLeaves.{values_of}
 
 module _ (n : ℕ) where
   abbrev Short : List ℕ → Type 0

@@ -4,8 +4,6 @@ pub mod Columns
 pub mod Fronts
 pub mod Stretch
 pub mod LeafCode
-pub mod Runs
-pub mod ValueKinds
-pub mod PlaceKinds
+pub mod Kinds
 pub mod Leaf
 pub mod Bits

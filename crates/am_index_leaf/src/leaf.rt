@@ -201,10 +201,16 @@ impl RawLeaf {
         self.find(part, key)
     }
 
-    /// An index at which the entry of a partition and of a key with that front may stand, or would go. It may be wrong:
-    /// a few places are looked at, and no key as a whole.
-    pub fn guess(&self, part: u32, front: u64) -> usize {
-        self.places.guess(self.len, part, front)
+    /// How many of its entries the entry of a partition and of a key with that front may stand behind, as far as the
+    /// place of each eighth tells.
+    pub fn pass_groups(&self, part: u32, front: u64) -> usize {
+        self.places.pass_groups(self.len, part, front)
+    }
+
+    /// An index at which the entry of a partition and of a key with that front may stand, or would go, behind the
+    /// entries that were passed. It may be wrong: eight places are looked at, and no key as a whole.
+    pub fn guess(&self, passed: usize, part: u32, front: u64) -> usize {
+        self.places.guess(passed, self.len, part, front)
     }
 
     // Whether the entry of the place stands at the index.
@@ -287,7 +293,7 @@ impl RawLeaf {
         ensures same_room { SameRoom self.new self.old }
     {
         self.places.extend(self.len, part, pairs, key_len);
-        self.values.extend(self.len, pairs, value_len);
+        self.values.extend(self.len, part, pairs, value_len);
         self.len += pairs.len();
     }
 

@@ -8,6 +8,7 @@
 
 mod bits;
 mod block;
+mod column;
 mod leaf;
 mod longest;
 mod places;

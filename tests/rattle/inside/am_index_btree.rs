@@ -1,6 +1,6 @@
 use crate::BTree;
 use crate::node::{Node, Subtree};
-use crate::read::Start;
+use crate::read::{Start, Wanted};
 use am_index::{Hint, PartIndex};
 use am_record::{Entry, Key, NoMemory, Value};
 use std::alloc::Global;
@@ -187,7 +187,8 @@ fn append(
     part: u32,
     pairs: &[(Key, Value)],
 ) -> Result<(), NoMemory> {
-    if tree.seek(part, Key::least(), Start::At).is_some() {
+    let found = tree.first_from(part, Key::least(), Start::At, Wanted::Any);
+    if found.is_some() {
         return Ok(());
     }
     tree.append(alloc, part, pairs)

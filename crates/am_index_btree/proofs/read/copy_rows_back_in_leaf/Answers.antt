@@ -33,9 +33,9 @@ loop-at-preserved-in-Continue-branch-2 c =
     omega (arith, c.if-len-max.false, c.len.ensures, c.loop-at.rows.ok.0) in
     record {
       room = omega (arith, c.loop-at.invariant.room, c.in_ok-push.ensures.capacity);
-      copied = row_copied_back es c.args.part c.args.range c.args.max c.args.rows.now.items c.lo.ensures.value
-          c.hi.ensures.value c.end_back_in_leaf-from.ensures.ends c.end_in_leaf-to.ensures.ends
-          c.loop-at.invariant.copied e next there low high inside
+      copied = row_copied_back es _ _ _ _ c.lo.ensures.value c.hi.ensures.value
+          c.end_back_in_leaf-from.ensures.ends c.end_in_leaf-to.ensures.ends c.loop-at.invariant.copied e next there low
+          high inside
           (get_or_default es next d e inside) (sym (c.is_ghost.ensures d) ∙ c.if-not-is_ghost.true)
           (c.in_ok-push.ensures.items ∙ ap (λ (r : OrderedKey × List ℕ). c.loop-at.rows.items ++ r ∷ [])
           (c.record.ensures d)) room;
@@ -52,19 +52,16 @@ loop-at-preserved c =
     let e : Entry = get_or es next d in
     record {
       room = c.loop-at.invariant.room;
-      copied = ghost_passed_back es c.args.part c.args.range c.args.max c.args.rows.now.items c.lo.ensures.value
-          c.hi.ensures.value c.end_back_in_leaf-from.ensures.ends c.end_in_leaf-to.ensures.ends
-          c.loop-at.invariant.copied e next there low high inside
+      copied = ghost_passed_back es _ _ _ _ c.lo.ensures.value c.hi.ensures.value
+          c.end_back_in_leaf-from.ensures.ends c.end_in_leaf-to.ensures.ends c.loop-at.invariant.copied e next there low
+          high inside
           (get_or_default es next d e inside) (sym (c.is_ghost.ensures d) ∙ c.if-not-is_ghost.false);
     }
 
 pub returns-then-len-max-clause-copied : goal.returns-then-len-max-clause-copied
-returns-then-len-max-clause-copied c =
-    are_enough_back c.args.leaf.now.entries c.args.part c.args.range c.args.max c.args.rows.now.items
-    c.loop-at.invariant.copied
+returns-then-len-max-clause-copied c = are_enough_back _ _ _ _ _ c.loop-at.invariant.copied
     (omega (arith, c.if-len-max.true, c.len.ensures, c.loop-at.rows.ok.0))
 
 pub returns-clause-copied : goal.returns-clause-copied
-returns-clause-copied c = all_copied_back c.args.leaf.now.entries c.args.part c.args.range c.args.max
-    c.args.rows.now.items c.lo.ensures.value c.hi.ensures.value c.end_back_in_leaf-from.ensures.ends
-    c.end_in_leaf-to.ensures.ends c.loop-at.invariant.copied c.loop-at-test.false
+returns-clause-copied c = all_copied_back _ _ _ _ _ c.lo.ensures.value c.hi.ensures.value
+    c.end_back_in_leaf-from.ensures.ends c.end_in_leaf-to.ensures.ends c.loop-at.invariant.copied c.loop-at-test.false

@@ -30,9 +30,9 @@ loop-at-preserved c =
           omega (arith, c.if-len-max.false, c.len.ensures, c.loop-at.rows.ok.0) in
           rw w.rows-is (record {
             room = omega (arith, c.loop-at.invariant.room, w.in_ok-push.ensures.capacity);
-            copied = row_copied es c.args.part c.args.range c.args.max c.args.rows.now.items c.lo.ensures.value
-                c.hi.ensures.value c.start_in_leaf-from.ensures.begins c.end_in_leaf-to.ensures.ends
-                c.loop-at.invariant.copied e c.loop-at.auto.at c.loop-at-test.true inside
+            copied = row_copied es _ _ _ _ c.lo.ensures.value c.hi.ensures.value
+                c.start_in_leaf-from.ensures.begins c.end_in_leaf-to.ensures.ends c.loop-at.invariant.copied e
+                c.loop-at.auto.at c.loop-at-test.true inside
                 (get_or_default es at d e inside) (sym (c.is_ghost.ensures d) ∙ w.if-not-is_ghost.true)
                 (w.in_ok-push.ensures.items ∙ ap (λ (r : OrderedKey × List ℕ). c.loop-at.rows.items ++ r ∷ [])
                 (w.record.ensures d)) room;
@@ -42,21 +42,19 @@ loop-at-preserved c =
           let e : Entry = get_or es at d in
           rw w.rows-is (record {
             room = c.loop-at.invariant.room;
-            copied = ghost_passed es c.args.part c.args.range c.args.max c.args.rows.now.items c.lo.ensures.value
-                c.hi.ensures.value c.start_in_leaf-from.ensures.begins c.end_in_leaf-to.ensures.ends
-                c.loop-at.invariant.copied e c.loop-at.auto.at c.loop-at-test.true inside
+            copied = ghost_passed es _ _ _ _ c.lo.ensures.value c.hi.ensures.value
+                c.start_in_leaf-from.ensures.begins c.end_in_leaf-to.ensures.ends c.loop-at.invariant.copied e
+                c.loop-at.auto.at c.loop-at-test.true inside
                 (get_or_default es at d e inside)
                 (sym (c.is_ghost.ensures d) ∙ w.if-not-is_ghost.false);
           })
     ]
 
 pub returns-then-len-max-clause-copied : goal.returns-then-len-max-clause-copied
-returns-then-len-max-clause-copied c =
-    are_enough c.args.leaf.now.entries c.args.part c.args.range c.args.max c.args.rows.now.items
-    c.loop-at.invariant.copied
+returns-then-len-max-clause-copied c = are_enough _ _ _ _ _ c.loop-at.invariant.copied
     (omega (arith, c.if-len-max.true, c.len.ensures, c.loop-at.rows.ok.0))
 
 pub returns-clause-copied : goal.returns-clause-copied
-returns-clause-copied c = all_copied c.args.leaf.now.entries c.args.part c.args.range c.args.max c.args.rows.now.items
+returns-clause-copied c = all_copied _ _ _ _ _
     c.lo.ensures.value c.hi.ensures.value c.start_in_leaf-from.ensures.begins c.end_in_leaf-to.ensures.ends
     c.loop-at.invariant.copied c.loop-at-test.false

@@ -9,11 +9,11 @@ use Rattle.am_index.proofs.Rooms.{keep_all}
 use Rattle.am_index.proofs.Searches.{whole_rest}
 use Rattle.am_index_btree.specs.Shape.{Shape}
 use Rattle.am_index_btree.specs.Rooms.{IsRoomed, KeepsRoom}
-use Rattle.am_index_btree.specs.Nodes.{all_entries, all_roomy, shape_of, IsTree, inner_shape, leaf_shape}
+use Rattle.am_index_btree.specs.Nodes.{all_entries, all_roomy, shape_of, inner_shape, leaf_shape}
 use Rattle.am_index_btree.proofs.EntriesBetween.{AreAmong, IsEnd, end_of, copied_or}
 use Rattle.am_index_btree.proofs.Stretches.{added_further}
-use Rattle.am_index_btree.proofs.Inner.{as_many, they_rise, one_below}
-use Rattle.am_index_btree.proofs.ValueRooms.{all_have, leaf_keeps}
+use Rattle.am_index_btree.proofs.Inner.{over, over_children}
+use Rattle.am_index_btree.proofs.ValueRooms.{all_have, leaf_keeps, tree_roomed}
 use Rattle.am_index_btree.proofs.node.Subtree.+insert_among.Goals as goal
 use Rattle.am_index_btree.proofs.node.Subtree.+insert_among.Goals.{in-Leaf, in-Inner+else-stretch-test}
 use Rattle.am_index_btree.proofs.node.Subtree.+insert_among.Goals.{
@@ -23,40 +23,38 @@ use Rattle.am_index_btree.proofs.node.Subtree.+insert_among.Goals.{in-Inner+then
 
 pub stretch-init : goal.stretch-init
 stretch-init t c =
-    let ks = c.in-Inner.children.items in let inner = subst IsTree c.in-Inner.is c.self.invariant in
-    let seen : c.args.self.now ≡ inner_shape ks = sym c.self.view_is ∙ ap shape_of c.in-Inner.is in
+    let node = over c.in-Inner.is c.self.invariant c.self.view_is in let ks = c.in-Inner.children.items in
     record {
       range = omega arith;
       so_far = record {
-        inner = inner;
+        inner = node.inner;
         among = tt;
         free = tt;
-        entries = sym (ap (λ (s : Shape). s.entries) seen);
-        depth = sym (ap (λ (s : Shape). s.depth) seen);
-        rooms = subst (λ (s : Shape). KeepsRoom s (inner_shape ks)) (sym seen)
-            (keep_all (all_roomy ks) (all_entries ks) (all_have ks inner.children.roomed));
+        entries = sym (ap (λ (s : Shape). s.entries) node.seen);
+        depth = sym (ap (λ (s : Shape). s.depth) node.seen);
+        rooms = subst (λ (s : Shape). KeepsRoom s (inner_shape ks)) (sym node.seen)
+            (keep_all (all_roomy ks) (all_entries ks) (all_have ks node.inner.children.roomed));
       };
     }
 
 pub child_for-at-requires-clause-rising : goal.child_for-at-requires-clause-rising
-child_for-at-requires-clause-rising t c = they_rise c.in-Inner.separators c.stretch.children.items _
-    c.stretch.invariant.so_far.inner
+child_for-at-requires-clause-rising t c = (over_children c.stretch.invariant.so_far.inner).asked.rising
 
 pub index_mut-requires : goal.index_mut-requires
 index_mut-requires t c = omega (
   arith,
-  as_many c.in-Inner.separators c.stretch.children.items _ c.stretch.invariant.so_far.inner,
+  (over_children c.stretch.invariant.so_far.inner).as_many,
   c.child_for-at.ensures.in_range,
   c.stretch.children.ok.0,
 )
 
 pub insert_among-count-requires : goal.insert_among-count-requires
 insert_among-count-requires t c =
-    let ls = c.in-Inner.separators in let ks = c.stretch.children.items in let at = c.child_for-at.result in
-    let k = c.index_mut.result.now in let inner = c.stretch.invariant.so_far.inner in
-    let deep = one_below ls ks _ inner at k (omega (arith, c.child_for-at.ensures.in_range, as_many ls ks _ inner))
-    c.index_mut.ensures.value in
-    let falls : k.depth < c.args.self.now.depth = omega (arith, deep, c.stretch.invariant.so_far.depth) in (
+    let node = over_children c.stretch.invariant.so_far.inner in
+    let deep = node.falls c.child_for-at.result c.index_mut.result.now
+    (omega (arith, c.child_for-at.ensures.in_range, node.as_many)) c.index_mut.ensures.value in
+    let falls : c.index_mut.result.now.depth < c.args.self.now.depth =
+    omega (arith, deep, c.stretch.invariant.so_far.depth) in (
       search rules,
       subst IsRising (sym (whole_rest c.stretch.added c.args.more.now))
           (rising-drop c.stretch.added c.args.more.now c.requires.rising),
@@ -68,13 +66,13 @@ stretch-preserved t c =
     let k = c.index_mut.result.now in let e = c.insert_among-count.ensures in
     let n = c.insert_among-count.result in
     let before = c.stretch.invariant.so_far in let more = c.args.more.now in let bound = option_copied c.args.bound in
-    let lt : at < length ks = omega (arith, c.child_for-at.ensures.in_range, as_many ls ks _ before.inner) in
+    let lt : at < length ks =
+    omega (arith, c.child_for-at.ensures.in_range, (over_children before.inner).as_many) in
     let is_end : IsEnd ls ks at bound (option_copied c.or-end.result) =
     subst (IsEnd ls ks at bound) (sym (ap option_copied c.or-end.ensures ∙ copied_or c.behind.result c.args.bound))
     (end_of ls ks _ before.inner at lt bound (option_copied c.behind.result) c.behind.ensures) in
-    let ks0 = c.in-Inner.children.items in let inner0 = subst IsTree c.in-Inner.is c.self.invariant in
-    let seen : c.args.self.now ≡ inner_shape ks0 = sym c.self.view_is ∙ ap shape_of c.in-Inner.is in
-    let have : IsRoomed c.args.self.now = subst IsRoomed (sym seen) (all_have ks0 inner0.children.roomed) in
+    let have : IsRoomed c.args.self.now = tree_roomed c.self.inside.node c.self.invariant c.args.self.now
+    c.self.view_is in
     let rest = whole_rest c.stretch.added more in
     let so_far = added_further c.args.self.now have bound more ls ks _ c.stretch.added before at k
     c.insert_among-count.new.self lt

@@ -1,125 +1,65 @@
-use Rattle.std.proofs.Common.{◌≡◌, ◌+◌, ◌<◌, ◌≤◌, length, sym, ap, ◌∙◌, subst, rules, arith}
+use Rattle.std.proofs.Common.{◌≡◌, List, length, drop, option_copied, sym, ap, ◌∙◌, subst}
+use Rattle.std.proofs.Common.{add-one, arith}
+use Rattle.std.proofs.lemmas.List.{drop-drop}
+use Rattle.std.specs.Prelude.{true}
+use Rattle.std.specs.List.{AllByRecursion}
+use Rattle.am_index.proofs.Searches.{whole_rest}
+use Rattle.am_index_btree.specs.Seek.{first_wanted, is_onward}
 use Rattle.am_index_btree.specs.Shape.{Shape}
-use Rattle.am_index_btree.specs.Nodes.{shape_of, depth_of, IsTree, inner_shape}
-use Rattle.am_index_btree.proofs.Inner.{as_many, they_rise, some_separators, one_below}
-use Rattle.am_index_btree.specs.Seek.{first_from}
-use Rattle.am_index_btree.proofs.ChildWalks.{found_here, found_next, found_nowhere}
-use Rattle.am_index_btree.proofs.ValueRooms.{tree_roomed}
+use Rattle.am_index_btree.specs.Nodes.{all_entries, depth_of}
+use Rattle.am_index_btree.proofs.Inner.{over}
+use Rattle.am_index_btree.proofs.Seeks.{all_onward}
+use Rattle.am_index_btree.proofs.ChildWalks.{child_within, search_from, search_here, search_on, search_ends}
 use Rattle.am_index_btree.proofs.node.Subtree.+seek.Goals as goal
 
-pub child_for-at-requires : goal.child_for-at-requires
-child_for-at-requires t c =
-    let ls = c.in-Inner.separators in let ks = c.in-Inner.children.items in
-    let inner = subst IsTree c.in-Inner.is c.self.invariant in
-    record { rising = they_rise ls ks _ inner; some = omega (arith, some_separators ls ks _ inner) }
+pub child_from-requires : goal.child_from-requires
+child_from-requires t c = (over c.in-Inner.is c.self.invariant c.self.view_is).asked
 
-pub overflow_add-at : goal.overflow_add-at
-overflow_add-at t c =
-    let inner = subst IsTree c.in-Inner.is c.self.invariant in
-    omega (
-      arith,
-      as_many c.in-Inner.separators c.in-Inner.children.items _ inner,
-      c.child_for-at.ensures.in_range,
-      inner.most,
-    )
+pub offset_bounds-deref-child_from : goal.offset_bounds-deref-child_from
+offset_bounds-deref-child_from t c =
+    let node = over c.in-Inner.is c.self.invariant c.self.view_is in
+    let within = child_within node (option_copied c.args.from) _ c.child_from.ensures in
+    omega (arith, within, node.inner.most)
 
-pub overflow_add-at-in-Inner : goal.overflow_add-at-in-Inner
-overflow_add-at-in-Inner t c =
-    let inner = subst IsTree c.in-Inner.is c.self.invariant in
-    omega (
-      arith,
-      as_many c.in-Inner.separators c.in-Inner.children.items _ inner,
-      c.child_for-at.ensures.in_range,
-      inner.most,
-    )
+pub slice_bounds-child-items-count : goal.slice_bounds-child-items-count
+slice_bounds-child-items-count t c =
+    let node = over c.in-Inner.is c.self.invariant c.self.view_is in
+    let within = child_within node (option_copied c.args.from) _ c.child_from.ensures in
+    omega (arith, within, ap length c.deref.ensures.value)
 
-pub index-requires : goal.index-requires
-index-requires t c =
-    let inner = subst IsTree c.in-Inner.is c.self.invariant in
-    omega (
-      arith,
-      as_many c.in-Inner.separators c.in-Inner.children.items _ inner,
-      c.child_for-at.ensures.in_range,
-      c.in-Inner.children.ok.0,
-    )
+pub slice_bounds-child-items-start : goal.slice_bounds-child-items-start
+slice_bounds-child-items-start t c =
+    let node = over c.in-Inner.is c.self.invariant c.self.view_is in
+    let within = child_within node (option_copied c.args.from) _ c.child_from.ensures in
+    omega (arith, within, ap length c.deref.ensures.value)
 
-pub seek-requires : goal.seek-requires
-seek-requires t c =
-    let ls = c.in-Inner.separators in let ks = c.in-Inner.children.items in let at = c.child_for-at.result in
-    let k = c.index.result.now in
-    let inner = subst IsTree c.in-Inner.is c.self.invariant in
-    let seen : c.args.self.now ≡ inner_shape ks = sym c.self.view_is ∙ ap shape_of c.in-Inner.is in
-    let child = c.child_for-at.ensures in
-    let deep = one_below ls ks _ inner at k (omega (arith, child.in_range, as_many ls ks _ inner))
-    c.index.ensures in
-    let falls : k.depth < c.args.self.now.depth = omega (arith, deep, ap (λ (s : Shape). s.depth) seen) in
-    (search rules, tt)
+pub loop-child-init : goal.loop-child-init
+loop-child-init t c =
+    let node = over c.in-Inner.is c.self.invariant c.self.view_is in
+    let ks = c.in-Inner.children.items in let at = c.child_from.result in let from = option_copied c.args.from in
+    let f = search_from c.args.wanted (depth_of ks) c.in-Inner.separators ks node.inner.children from at
+    c.child_from.ensures in
+    let rest = whole_rest at c.deref.result.now ∙ ap (drop at) c.deref.ensures.value in
+    record {
+      same = ap (λ (l : List Shape). first_wanted c.args.wanted from (all_entries l)) rest ∙ f.0 ∙
+          sym (ap (λ (s : Shape). first_wanted c.args.wanted from s.entries) node.seen);
+      behind = subst (λ (l : List Shape). AllByRecursion (λ e. is_onward from e ≡ true) (all_entries l))
+          (sym (ap (drop 1) rest ∙ drop-drop 1 at ks ∙ ap (λ n. drop n ks) (add-one at))) f.1;
+    }
 
 pub returns-in-Some-clause-found : goal.returns-in-Some-clause-found
 returns-in-Some-clause-found t c =
-    let ls = c.in-Inner.separators in let ks = c.in-Inner.children.items in let at = c.child_for-at.result in
-    let part = c.args.part in let key = c.args.key in
-    let inner = subst IsTree c.in-Inner.is c.self.invariant in
-    let seen : c.args.self.now ≡ inner_shape ks = sym c.self.view_is ∙ ap shape_of c.in-Inner.is in
-    let child = c.child_for-at.ensures in
-    let k = c.index.result.now in
-    sym (ap (λ (s : Shape). first_from c.args.start s.entries part key) seen ∙ found_here part key (depth_of ks) ls ks
-    inner.children at child c.args.start k c.index.ensures c.in-Some.entry
-    (sym c.seek.ensures.found ∙ c.in-Some.is))
+    search_here c.args.wanted (option_copied c.loop-child.from) _ c.loop-child.child-index c.child-item.result
+    c.loop-child-test.true c.child-item.is c.in-Some.entry c.in-Some.ensures.found ∙ c.loop-child.invariant.same
 
-pub returns-then-at-len-clause-found : goal.returns-then-at-len-clause-found
-returns-then-at-len-clause-found t c =
-    let ls = c.in-Inner.separators in let ks = c.in-Inner.children.items in let at = c.child_for-at.result in
-    let part = c.args.part in let key = c.args.key in
-    let inner = subst IsTree c.in-Inner.is c.self.invariant in
-    let seen : c.args.self.now ≡ inner_shape ks = sym c.self.view_is ∙ ap shape_of c.in-Inner.is in
-    let child = c.child_for-at.ensures in
-    let k = c.index.result.now in
-    let last : length ks ≤ at + 1 = omega (arith, c.if-at-len.true, c.len.ensures, c.in-Inner.children.ok.0) in
-    sym (ap (λ (s : Shape). first_from c.args.start s.entries part key) seen ∙ found_nowhere part key (depth_of ks) ls
-    ks inner.children at child c.args.start k c.index.ensures (sym c.seek.ensures.found ∙ c.in_default.is) last)
+pub loop-child-preserved : goal.loop-child-preserved
+loop-child-preserved t c = record {
+  same = search_on c.args.wanted (option_copied c.loop-child.from) _ c.loop-child.child-index c.child-item.result
+      c.loop-child-test.true c.child-item.is c.in_default.ensures.found c.loop-child.invariant.behind ∙
+      c.loop-child.invariant.same;
+  behind = all_onward _;
+}
 
-pub index-requires-in-Inner : goal.index-requires-in-Inner
-index-requires-in-Inner t c =
-    let inner = subst IsTree c.in-Inner.is c.self.invariant in
-    omega (
-      arith,
-      as_many c.in-Inner.separators c.in-Inner.children.items _ inner,
-      c.child_for-at.ensures.in_range,
-      c.in-Inner.children.ok.0,
-      c.if-at-len.false,
-      c.len.ensures,
-    )
-
-pub returns-else-at-len-clause-found : goal.returns-else-at-len-clause-found
-returns-else-at-len-clause-found t c =
-    let ls = c.in-Inner.separators in let ks = c.in-Inner.children.items in let at = c.child_for-at.result in
-    let part = c.args.part in let key = c.args.key in
-    let inner = subst IsTree c.in-Inner.is c.self.invariant in
-    let seen : c.args.self.now ≡ inner_shape ks = sym c.self.view_is ∙ ap shape_of c.in-Inner.is in
-    let child = c.child_for-at.ensures in
-    let k = c.index.result.now in
-    let more : at + 1 < length ks = omega (
-      arith,
-      child.in_range,
-      as_many ls ks _ inner,
-      c.if-at-len.false,
-      c.len.ensures,
-      c.in-Inner.children.ok.0,
-    ) in
-    c.first.ensures
-    ∙ sym (found_next part key (depth_of ks) ls ks inner.children at child c.args.start k c.index.ensures
-    c.index-in-Inner.result.now (sym c.seek.ensures.found ∙ c.in_default.is) more c.index-in-Inner.ensures)
-    ∙ sym (ap (λ (s : Shape). first_from c.args.start s.entries part key) seen)
-
-pub returns-in-Some-clause-roomed : goal.returns-in-Some-clause-roomed
-returns-in-Some-clause-roomed t c = tree_roomed c.self.inside.node c.self.invariant c.args.self.now c.self.view_is
-
-pub returns-then-at-len-clause-roomed : goal.returns-then-at-len-clause-roomed
-returns-then-at-len-clause-roomed t c = tree_roomed c.self.inside.node c.self.invariant c.args.self.now c.self.view_is
-
-pub returns-in-Leaf-clause-roomed : goal.returns-in-Leaf-clause-roomed
-returns-in-Leaf-clause-roomed t c = tree_roomed c.self.inside.node c.self.invariant c.args.self.now c.self.view_is
-
-pub returns-else-at-len-clause-roomed : goal.returns-else-at-len-clause-roomed
-returns-else-at-len-clause-roomed t c = tree_roomed c.self.inside.node c.self.invariant c.args.self.now c.self.view_is
+pub returns-after-loop-child-clause-found : goal.returns-after-loop-child-clause-found
+returns-after-loop-child-clause-found t c = search_ends c.args.wanted (option_copied c.loop-child.from) _
+    c.loop-child.child-index c.loop-child-test.false ∙ c.loop-child.invariant.same

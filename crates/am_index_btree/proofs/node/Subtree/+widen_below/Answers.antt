@@ -1,50 +1,29 @@
-use Rattle.std.proofs.Common.{◌≡◌, ◌<◌, IsSome, OnErr, length, set, sym, ap, ◌∙◌, subst, rules, arith}
+use Rattle.std.proofs.Common.{◌≡◌, IsSome, OnErr, length, sym, ap, ◌∙◌, subst, rules, arith}
 use Rattle.am_index.specs.Entries.{find, IsRising}
 use Rattle.am_index.specs.Rooms.{HasRoom}
 use Rattle.am_index_btree.specs.Shape.{Shape}
 use Rattle.am_index_btree.specs.Rooms.{IsWidened}
-use Rattle.am_index_btree.specs.Nodes.{all_roomy, shape_of, IsTree, inner_shape, leaf_shape}
-use Rattle.am_index_btree.proofs.Inner.{as_many, they_rise, some_separators, one_below}
-use Rattle.am_index_btree.proofs.Children.{find_in_child}
-use Rattle.am_index_btree.proofs.WiderRooms.{if_ok_map, on_err_map, leaf_widened, widened_inner, widened_all, room_got}
-use Rattle.am_index_btree.proofs.WiderRooms.{no_room}
+use Rattle.am_index_btree.specs.Nodes.{shape_of, IsTree, leaf_shape}
+use Rattle.am_index_btree.proofs.Inner.{over}
+use Rattle.am_index_btree.proofs.ChildEdits.{way_down, widened, room_got}
+use Rattle.am_index_btree.proofs.WiderRooms.{if_ok_map, on_err_map, leaf_widened}
 use Rattle.am_index_btree.proofs.node.Subtree.+widen_below.Goals as goal
 use Rattle.am_index_btree.proofs.node.Subtree.+widen_below.Goals.{in-Leaf, in-Inner}
 
 pub child_near-at-requires : goal.child_near-at-requires
-child_near-at-requires t c =
-    let ls = c.in-Inner.separators in let ks = c.in-Inner.children.items in
-    let inner = subst IsTree c.in-Inner.is c.self.invariant in
-    record { rising = they_rise ls ks _ inner; some = omega (arith, some_separators ls ks _ inner) }
+child_near-at-requires t c = (over c.in-Inner.is c.self.invariant c.self.view_is).asked
 
 pub index_mut-requires : goal.index_mut-requires
 index_mut-requires t c =
-    let inner = subst IsTree c.in-Inner.is c.self.invariant in
-    omega (
-      arith,
-      as_many c.in-Inner.separators c.in-Inner.children.items _ inner,
-      c.child_near-at.ensures.in_range,
-      c.in-Inner.children.ok.0,
-    )
+    let node = over c.in-Inner.is c.self.invariant c.self.view_is in
+    omega (arith, node.as_many, c.child_near-at.ensures.in_range, c.in-Inner.children.ok.0)
 
 pub widen_below-requires : goal.widen_below-requires
 widen_below-requires t c =
-    let ls = c.in-Inner.separators in let ks = c.in-Inner.children.items in let at = c.child_near-at.result in
-    let k = c.index_mut.result.now in
-    let inner = subst IsTree c.in-Inner.is c.self.invariant in
-    let seen : c.args.self.now ≡ inner_shape ks = sym c.self.view_is ∙ ap shape_of c.in-Inner.is in
-    let child = c.child_near-at.ensures in
-    let deep = one_below ls ks _ inner at k (omega (arith, child.in_range, as_many ls ks _ inner))
-    c.index_mut.ensures.value in
-    let falls : k.depth < c.args.self.now.depth = omega (arith, deep, ap (λ (s : Shape). s.depth) seen) in (
-      search rules,
-      (
-        subst IsSome (ap (λ (s : Shape). find s.entries c.args.part c.args.key) seen ∙
-            find_in_child c.args.part c.args.key ls ks at k inner.children.parted child c.index_mut.ensures.value)
-            c.requires.present,
-        c.requires.most,
-      ),
-    )
+    let node = over c.in-Inner.is c.self.invariant c.self.view_is in
+    let way = way_down node c.child_near-at.ensures c.index_mut.ensures.value in
+    let falls = way.falls in
+    (search rules, (way.present c.requires.present, c.requires.most))
 
 pub widen_leaf-requires-clause-present : goal.widen_leaf-requires-clause-present
 widen_leaf-requires-clause-present t c =
@@ -60,12 +39,9 @@ invariant_of-self t c = elim c.match-self.branch [
         (subst IsRising (sym e.entries) old.1.0, e.room),
       )
   | in-Inner w ↦
-      let ls = w.in-Inner.separators in let ks = w.in-Inner.children.items in let at = w.child_near-at.result in
-      let inner = subst IsTree w.in-Inner.is c.self.invariant in
-      let child = w.child_near-at.ensures in
-      let k = w.index_mut.result.now in let k' = w.widen_below.new.self in let here = w.index_mut.ensures.value in
-      let e = w.widen_below.ensures in
-      rw w.self-inside-is (widened_inner c.args.part c.args.key ls ks _ inner at child k here k' e.widened)
+      let node = over w.in-Inner.is c.self.invariant c.self.view_is in
+      rw w.self-inside-is (widened node w.child_near-at.ensures w.index_mut.ensures.value
+      w.widen_below.ensures.widened).0
 ]
 
 pub returns : goal.returns
@@ -81,21 +57,12 @@ returns t c = elim c.match-self.branch [
             (leaf_widened w.in-Leaf.leaf w.widen_leaf.new.leaf e.entries e.room e.no_less_room);
       })
   | in-Inner w ↦
-      let ls = w.in-Inner.separators in let ks = w.in-Inner.children.items in let at = w.child_near-at.result in
-      let part = c.args.part in let key = c.args.key in let bytes = c.args.bytes in
-      let inner = subst IsTree w.in-Inner.is c.self.invariant in
-      let seen : c.args.self.now ≡ inner_shape ks = sym c.self.view_is ∙ ap shape_of w.in-Inner.is in
-      let child = w.child_near-at.ensures in
-      let k = w.index_mut.result.now in let k' = w.widen_below.new.self in let here = w.index_mut.ensures.value in
-      let e = w.widen_below.ensures in
-      let stands = subst IsSome (ap (λ (s : Shape). find s.entries part key) seen ∙
-      find_in_child part key ls ks at k inner.children.parted child here) c.requires.present in
+      let node = over w.in-Inner.is c.self.invariant c.self.view_is in let e = w.widen_below.ensures in
+      let child = w.child_near-at.ensures in let here = w.index_mut.ensures.value in
+      let way = way_down node child here in
       rw (w.result-is, w.self-inside-is) (record {
-        ok = if_ok_map (λ _. HasRoom k'.roomy part key bytes) (λ _. HasRoom (all_roomy (set ks at k')) part key bytes)
-            (λ _ has. room_got part key ls ks _ inner at child k here k' e.widened bytes has) w.widen_below.result e.ok;
-        full = on_err_map (λ none has. no_room part key ls ks _ inner at child k here bytes stands none
-            (subst (λ (o : Shape). HasRoom o.roomy part key bytes) seen has)) w.widen_below.result e.full;
-        widened = subst (λ (o : Shape). IsWidened o (inner_shape (set ks at k'))) (sym seen)
-            (widened_all part key ls ks _ inner at child k here k' e.widened);
+        ok = if_ok_map _ _ (λ _ has. room_got node child here e.widened c.args.bytes has) w.widen_below.result e.ok;
+        full = on_err_map (λ none has. none (way.room c.args.bytes c.requires.present has)) w.widen_below.result e.full;
+        widened = (widened node child here e.widened).1;
       })
 ]

@@ -1,12 +1,7 @@
 use Rattle.std.proofs.Common.{subst, arith}
 use Rattle.am_index_btree.specs.Nodes.{IsTree}
-use Rattle.am_index_btree.proofs.Inner.{as_many, they_rise, some_separators}
+use Rattle.am_index_btree.proofs.Inner.{as_many, some_separators}
 use Rattle.am_index_btree.proofs.node.Subtree.step.Goals as goal
-
-pub guess-at-requires : goal.guess-at-requires
-guess-at-requires c =
-    let inner = subst IsTree c.in-Inner.is c.self.invariant in
-    they_rise c.in-Inner.separators c.in-Inner.children.items _ inner
 
 pub index-requires : goal.index-requires
 index-requires c =

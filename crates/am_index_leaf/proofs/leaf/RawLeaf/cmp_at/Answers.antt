@@ -15,4 +15,4 @@ returns c = λ d.
     (omega (arith, held.places, counted a held _ (ap (λ (s : Seen). s.entries) c.self.view_is), c.requires)) in
     let seen = sym (ap (λ l. get_or l at d) (ap (λ (s : Seen). s.entries) c.self.view_is)) ∙ here in
     c.then.ensures ∙ (λ j. ordering_then (c.cmp.ensures j) (c.cmp-2.ensures j)) ∙
-    ap (λ q. place_cmp q p) c.get-place.ensures.place ∙ sym (ap (λ e. place_cmp (place_of e) p) seen)
+    ap (λ q. place_cmp q p) c.get-place.ensures.element ∙ sym (ap (λ e. place_cmp (place_of e) p) seen)

@@ -1,13 +1,15 @@
 use Rattle.am_record.proofs.Lists.{AllByRecursion-append}
 use Rattle.std.proofs.Common.{ℕ, List, ◌+◌, ◌^◌, ◌<◌, ◌≤◌, length, sym, ap, ◌∙◌, subst, length-append, ◌++◌, arith}
+use Rattle.std.proofs.lemmas.List.{length-map}
+use Rattle.am_record.specs.EntryOrder.{Place}
+use Rattle.am_record.proofs.FirstRows.{Record}
 use Rattle.am_index.specs.Entries.{IsRising}
 use Rattle.am_index.specs.Runs.{run_entries}
 use Rattle.am_index_leaf.specs.Leaf.{entries_of}
-use Rattle.am_index_leaf.specs.Runs.{places_of, values_of}
 use Rattle.am_index_leaf.specs.LeafCode.{Seen}
 use Rattle.am_index_leaf.proofs.FittingValues.{fit_now, fit_run, fit_run_more}
 use Rattle.am_index_leaf.proofs.BitLemmas.{pow_mono}
-use Rattle.am_index_leaf.proofs.ExtendedLeaves.{length-places_of, length-values_of, entries_of-extend}
+use Rattle.am_index_leaf.proofs.ExtendedLeaves.{places_of, values_of, entries_of-extend}
 use Rattle.am_index_leaf.proofs.Leaves.{alike, counted}
 use Rattle.am_index_leaf.proofs.leaf.RawLeaf.extend.Goals as goal
 
@@ -45,14 +47,14 @@ invariant_of-self c =
         arith,
         ap length c.extend.ensures.items,
         length-append a.places.items (places_of c.args.part rs),
-        length-places_of c.args.part rs,
+        length-map {B = Place} rs (λ (r : Record). (c.args.part, r.0)),
         held.places,
       );
       values = omega (
         arith,
         ap length c.extend-2.ensures.items,
         length-append a.values.items (values_of rs),
-        length-values_of rs,
+        length-map {B = List ℕ} rs (λ (r : Record). r.1),
         held.values,
       );
       most = omega (arith, many, c.requires.room);

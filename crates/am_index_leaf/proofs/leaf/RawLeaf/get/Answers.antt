@@ -8,7 +8,7 @@ pub returns : goal.returns
 returns c =
     let a = c.self.inside in let held = c.self.invariant in let at = c.args.at in
     let e = entry_of c.get-part.result c.get.result c.has_bit.result in
-    (λ j. entry_of (c.get-part.ensures.place j) (c.get.ensures.value j) (c.has_bit.ensures j))
+    (λ j. entry_of (c.get-part.ensures.element j) (c.get.ensures.element j) (c.has_bit.ensures j))
     ∙ sym (entries_of-at a.places.items a.values.items a.ghosts at c.get-part.result c.get.result e (alike a held)
     (omega (arith, held.places, counted a held _ (ap (λ (s : Seen). s.entries) c.self.view_is), c.requires)))
     ∙ ap (λ l. get_or l at e) (ap (λ (s : Seen). s.entries) c.self.view_is)

@@ -8,7 +8,7 @@ use Rattle.am_index_leaf.proofs.leaf.RawLeaf.record.Goals as goal
 pub returns : goal.returns
 returns c = λ d.
     let a = c.self.inside in let held = c.self.invariant in let at = c.args.at in
-    (λ j. ((c.get-place.ensures.place j).1, c.get.ensures.value j))
+    (λ j. ((c.get-place.ensures.element j).1, c.get.ensures.element j))
     ∙ sym (ap (λ (e : Entry). (e.key, e.value)) (entries_of-at a.places.items a.values.items a.ghosts at
     c.get-place.result c.get.result d (alike a held)
     (omega (arith, held.places, counted a held _ (ap (λ (s : Seen). s.entries) c.self.view_is), c.requires))))

@@ -20,7 +20,7 @@ returns-clause-entry c =
     let a = c.self.inside in let held = c.self.invariant in let at = c.args.at in
     let p = c.remove-part.result in let v = c.remove-value.result in
     let e = entry_of p v c.has_bit-is_ghost.result in
-    (λ j. entry_of (c.remove-part.ensures.place j) (c.remove-value.ensures.value j) (c.has_bit-is_ghost.ensures j))
+    (λ j. entry_of (c.remove-part.ensures.element j) (c.remove-value.ensures.element j) (c.has_bit-is_ghost.ensures j))
     ∙ sym (entries_of-at a.places.items a.values.items a.ghosts at p v e (alike a held)
     (omega (arith, held.places, counted a held _ (ap (λ (s : Seen). s.entries) c.self.view_is), c.requires)))
     ∙ ap (λ l. get_or l at e) (ap (λ (s : Seen). s.entries) c.self.view_is)

@@ -1,0 +1,6 @@
+use Rattle.std.proofs.Common.{rules}
+use Rattle.std.proofs.lemmas.List.{map-set}
+use Rattle.am_index_leaf.proofs.column.Column.set.Goals as goal
+
+pub returns-clause-items : goal.returns-clause-items
+returns-clause-items g c = Prim.search (rules, map-set)

@@ -1,6 +1,0 @@
-use Rattle.std.proofs.Common.{◌≡◌, ◌++◌, take}
-use Rattle.am_index_leaf.specs.Runs.{values_of}
-use Rattle.am_index_leaf.proofs.values.extend_wide.Given as goal
-
-abbrev pub invariant-loop-at : goal.invariant-loop-at
-invariant-loop-at l = l.values ≡ l.initial.values ++ values_of (take l.at l.pairs)
