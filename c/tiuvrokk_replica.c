@@ -33,6 +33,17 @@ uint32_t tiuvrokk_log_first_behind(tvk_log *log, uint64_t revision, uint64_t *to
 uint32_t tiuvrokk_log_may_be_left(tvk_log *log, uint64_t revision, uint64_t *told);
 uint32_t tiuvrokk_log_text(tvk_log *log, uint64_t from, void *bytes, size_t room, uint64_t *told);
 
+uint32_t tiuvrokk_waits_open(tvk_waits *waits);
+uint32_t tiuvrokk_waits_close(tvk_waits *waits);
+uint32_t tiuvrokk_waits_enter(tvk_waits *waits, uint64_t bytes, uint64_t *told);
+uint32_t tiuvrokk_waits_hand_over(tvk_waits *waits, uint64_t most_bytes, uint64_t *numbers, size_t room, uint64_t *told);
+uint32_t tiuvrokk_waits_settle(tvk_waits *waits, uint64_t number);
+uint32_t tiuvrokk_waits_expire(tvk_waits *waits, uint64_t number);
+uint32_t tiuvrokk_waits_reach(tvk_waits *waits, uint64_t revision);
+uint32_t tiuvrokk_waits_answered(tvk_waits *waits, uint64_t asked, uint64_t end);
+uint32_t tiuvrokk_waits_known(tvk_waits *waits, uint64_t *told);
+uint32_t tiuvrokk_waits_is_reached(tvk_waits *waits, uint64_t begun, uint64_t *told);
+
 /* What a text of no bytes points to. */
 static const char no_bytes[1];
 
@@ -201,4 +212,62 @@ tvk_status tvk_log_text(tvk_log *log, uint64_t from, void *bytes, size_t room, u
     BEGIN_AT(log);
     ROOM;
     return tiuvrokk_log_text(log, from, bytes, room, length);
+}
+
+tvk_status tvk_waits_open(tvk_waits *waits) {
+    if (!waits) return TVK_NO_STORE;
+    return tiuvrokk_waits_open(waits);
+}
+
+tvk_status tvk_waits_close(tvk_waits *waits) {
+    if (!waits) return TVK_NO_STORE;
+    return tiuvrokk_waits_close(waits);
+}
+
+tvk_status tvk_waits_enter(tvk_waits *waits, uint64_t bytes, uint64_t *number) {
+    if (number) *number = 0;
+    if (!waits || !waits->at) return TVK_NO_STORE;
+    if (!number) return TVK_NULL;
+    return tiuvrokk_waits_enter(waits, bytes, number);
+}
+
+tvk_status tvk_waits_hand_over(tvk_waits *waits, uint64_t most_bytes, uint64_t *numbers, size_t room, uint64_t *count) {
+    uint64_t none[1];
+    if (count) *count = 0;
+    if (!waits || !waits->at) return TVK_NO_STORE;
+    if (!count || (!numbers && room)) return TVK_NULL;
+    return tiuvrokk_waits_hand_over(waits, most_bytes, numbers ? numbers : none, room, count);
+}
+
+tvk_status tvk_waits_settle(tvk_waits *waits, uint64_t number) {
+    if (!waits) return TVK_NO_STORE;
+    return tiuvrokk_waits_settle(waits, number);
+}
+
+tvk_status tvk_waits_expire(tvk_waits *waits, uint64_t number) {
+    if (!waits) return TVK_NO_STORE;
+    return tiuvrokk_waits_expire(waits, number);
+}
+
+tvk_status tvk_waits_reach(tvk_waits *waits, uint64_t revision) {
+    if (!waits) return TVK_NO_STORE;
+    return tiuvrokk_waits_reach(waits, revision);
+}
+
+tvk_status tvk_waits_answered(tvk_waits *waits, uint64_t asked, uint64_t end) {
+    if (!waits) return TVK_NO_STORE;
+    return tiuvrokk_waits_answered(waits, asked, end);
+}
+
+tvk_status tvk_waits_known(tvk_waits *waits, uint64_t *asked) {
+    uint64_t *length = asked;
+    BEGIN_AT(waits);
+    return tiuvrokk_waits_known(waits, length);
+}
+
+tvk_status tvk_waits_is_reached(tvk_waits *waits, uint64_t begun, int *is) {
+    uint64_t told = 0;
+    tvk_status status = waits ? tiuvrokk_waits_is_reached(waits, begun, &told) : TVK_NO_STORE;
+    if (is) *is = told != 0;
+    return status;
 }

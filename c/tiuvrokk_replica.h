@@ -32,6 +32,20 @@
  * tvk_log_first_behind said when the snapshot was written, the floor that names it among them. It takes an entry into its replica
  * only where the head's revision is above that up to which the snapshot has them.
  *
+ * WAITS. A tvk_waits says whose blocks wait for their place in the log, and whose are on their way there, by numbers that rise in the
+ * order in which blocks come: who is told TVK_UNREACHABLE was never handed over and never will be, and each is told once. It also
+ * says whether a read by the log may be answered: only where all is applied that the log had when the read began.
+ *
+ *     tvk_waits waits = TVK_NO_WAITS;
+ *     if (tvk_waits_open(&waits)) return 1;
+ *     if (tvk_waits_enter(&waits, bytes, &number)) return 1;                              (a client's blocks wait)
+ *     if (tvk_waits_hand_over(&waits, most_bytes, numbers, room, &count)) return 1;       (those of these numbers go into an entry)
+ *     status = tvk_waits_settle(&waits, numbers[0]);          (the entry was taken: TVK_ABSENT says that the client was told before)
+ *     status = tvk_waits_expire(&waits, number);              (its time is over: the client is told by the status)
+ *
+ * Moments are nanoseconds of one clock. One that is noted for a question was before the question was put; then
+ * tvk_waits_answered says so, and tvk_waits_reach what is applied, once it is.
+ *
  * ANSWERS. What a call tells is a text, lines that end with an LF each. It stands in the replica until the next call of it;
  * `length` says how many bytes it has, and tvk_replica_answer copies them.
  *
@@ -39,10 +53,11 @@
  * and so does each later one until tvk_replica_close, but for tvk_replica_answer, which has nothing to copy then; a transaction that
  * was passed to such a call is gone. tvk_replica_begin alone may be called again. A log that is refused memory is over: each later
  * call answers TVK_NO_MEMORY until tvk_log_close, but for tvk_log_text, which has nothing to copy then. It is over in the same way
- * once it answered TVK_WENT_BACK. Calls that open may be called again.
+ * once it answered TVK_WENT_BACK. A tvk_waits that is refused memory is as it was before that call. Calls that open may be called
+ * again.
  *
  * THREADS, BAD USE and the first of several faults are as tiuvrokk.h has them: TVK_NO_STORE for a handle that is NULL or has no
- * replica or log, then TVK_NO_TX for one that is NULL or has no transaction, then TVK_NULL, then what the call itself finds. */
+ * replica, log or waits, then TVK_NO_TX for one that is NULL or has no transaction, then TVK_NULL, then what the call itself finds. */
 
 #ifndef TIUVROKK_REPLICA_H
 #define TIUVROKK_REPLICA_H
@@ -53,7 +68,7 @@
 extern "C" {
 #endif
 
-/* A replica, a transaction before it is a block, and a log; each begins as none, and isn't copied. */
+/* A replica, a transaction before it is a block, a log, and those that wait; each begins as none, and isn't copied. */
 typedef struct tvk_replica {
     void *at;
 } tvk_replica;
@@ -66,22 +81,29 @@ typedef struct tvk_log {
     void *at;
 } tvk_log;
 
+typedef struct tvk_waits {
+    void *at;
+} tvk_waits;
+
 /* An entry's name: who wrote it, as the upper and the lower half of a number of 128 bits, and its number there. */
 typedef struct tvk_entry_name {
     uint64_t writer_high, writer_low, number;
 } tvk_entry_name;
 
-/* Four statuses more. */
+/* Six statuses more. */
 enum {
-    TVK_NO_ENTRY = 26,     /* the text is no entry of a log, or a line of it is none of a transaction's */
-    TVK_STAGED = 27,       /* records that STAGE has wait aren't loaded or put yet */
-    TVK_WENT_BACK = 28,    /* the floor doesn't follow the one that is known: the cluster went back */
-    TVK_PARTS_MISSING = 29 /* an entry counts of which not all pieces came, each in its turn */
+    TVK_NO_ENTRY = 26,      /* the text is no entry of a log, or a line of it is none of a transaction's */
+    TVK_STAGED = 27,        /* records that STAGE has wait aren't loaded or put yet */
+    TVK_WENT_BACK = 28,     /* the floor doesn't follow the one that is known: the cluster went back */
+    TVK_PARTS_MISSING = 29, /* an entry counts of which not all pieces came, each in its turn */
+    TVK_UNREACHABLE = 30,   /* blocks were never handed over, and never will be */
+    TVK_UNKNOWN = 31        /* blocks were handed over, and what they came to isn't known */
 };
 
 #define TVK_NO_REPLICA {0}
 #define TVK_NO_TRANSACTION {0}
 #define TVK_NO_LOG {0}
+#define TVK_NO_WAITS {0}
 
 /* The part of an entry that is its head. */
 #define TVK_HEAD UINT64_MAX
@@ -180,6 +202,44 @@ tvk_status tvk_log_may_be_left(tvk_log *log, uint64_t revision, int *may);
 /* Copies the bytes of the entry's text from a place on, as many as there is room for: `copied` says how many. There are none where
  * the last change ended no entry.  TVK_NO_STORE, TVK_NULL. */
 tvk_status tvk_log_text(tvk_log *log, uint64_t from, void *bytes, size_t room, uint64_t *copied);
+
+/* Opens a handle at which nobody waits, and nothing is known of the log's end.  TVK_NO_STORE, TVK_IS_OPEN, TVK_NO_MEMORY. */
+TVK_MUST_USE tvk_status tvk_waits_open(tvk_waits *waits);
+
+/* Gives back all memory of those that wait.  TVK_NO_STORE. */
+tvk_status tvk_waits_close(tvk_waits *waits);
+
+/* Has a client's blocks, of so many bytes, wait behind all others, under a number that is told: from 1 on, each above all before.
+ * TVK_NO_STORE, TVK_NULL, TVK_NO_MEMORY, by which nothing waits that didn't. */
+TVK_MUST_USE tvk_status tvk_waits_enter(tvk_waits *waits, uint64_t bytes, uint64_t *number);
+
+/* Lets those go on their way that have waited longest: the first one whatever its size, and further ones as long as all have at most
+ * `most_bytes` and there is room for their numbers. These go out in their order; `count` says how many. It takes no memory.
+ * TVK_NO_STORE, TVK_NULL. */
+TVK_MUST_USE tvk_status tvk_waits_hand_over(tvk_waits *waits, uint64_t most_bytes, uint64_t *numbers, size_t room, uint64_t *count);
+
+/* The blocks of this number came to their end in the log: TVK_OK says that their client is to be told, and they are gone. It takes no
+ * memory.  TVK_NO_STORE, TVK_ABSENT where they aren't on their way. */
+TVK_MUST_USE tvk_status tvk_waits_settle(tvk_waits *waits, uint64_t number);
+
+/* The time of the blocks of this number is over: TVK_UNREACHABLE where they still waited, and are never handed over, TVK_UNKNOWN where
+ * they were on their way. They are gone, and their client is to be told so. It takes no memory.  TVK_NO_STORE, TVK_ABSENT where
+ * neither. */
+TVK_MUST_USE tvk_status tvk_waits_expire(tvk_waits *waits, uint64_t number);
+
+/* All that the log has up to this revision is applied, or more was before. It takes no memory.  TVK_NO_STORE. */
+tvk_status tvk_waits_reach(tvk_waits *waits, uint64_t revision);
+
+/* The cluster was asked after this moment where the log's end is, and answered this revision.  TVK_NO_STORE, TVK_NO_MEMORY, by which
+ * nothing is known of that answer. */
+TVK_MUST_USE tvk_status tvk_waits_answered(tvk_waits *waits, uint64_t asked, uint64_t end);
+
+/* The newest moment of a question whose answer is applied: 0 where there is none.  TVK_NO_STORE. */
+tvk_status tvk_waits_known(tvk_waits *waits, uint64_t *asked);
+
+/* Whether a read by the log that began at this moment may be answered: a question that was put since then has its answer, and all up
+ * to that is applied, so `is` is 1, or it is 0. No read begins at 0.  TVK_NO_STORE. */
+tvk_status tvk_waits_is_reached(tvk_waits *waits, uint64_t begun, int *is);
 
 #ifdef __cplusplus
 }

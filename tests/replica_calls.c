@@ -340,6 +340,72 @@ static void read_logs(void) {
     want(tvk_log_close(&entries_log) == TVK_OK && !entries_log.at, "a log isn't closed");
 }
 
+/* ---- those that wait */
+
+static void bad_wait_calls(void) {
+    tvk_waits none = TVK_NO_WAITS;
+    uint64_t numbers[1] = {7}, told = 7;
+    int is = 7;
+    want(tvk_waits_open(NULL) == TVK_NO_STORE, "NULL is opened");
+    want(tvk_waits_close(NULL) == TVK_NO_STORE && tvk_waits_close(&none) == TVK_NO_STORE, "none is closed");
+    want(tvk_waits_enter(NULL, 1, NULL) == TVK_NO_STORE && tvk_waits_enter(&none, 1, &told) == TVK_NO_STORE && !told,
+         "none is entered");
+    told = 7;
+    want(tvk_waits_hand_over(&none, 9, numbers, 1, &told) == TVK_NO_STORE && !told && numbers[0] == 7, "none hands over");
+    want(tvk_waits_hand_over(NULL, 9, NULL, 1, NULL) == TVK_NO_STORE, "NULL hands over");
+    want(tvk_waits_settle(NULL, 1) == TVK_NO_STORE && tvk_waits_settle(&none, 1) == TVK_NO_STORE, "none settles");
+    want(tvk_waits_expire(NULL, 1) == TVK_NO_STORE && tvk_waits_expire(&none, 1) == TVK_NO_STORE, "none expires");
+    want(tvk_waits_reach(NULL, 1) == TVK_NO_STORE && tvk_waits_reach(&none, 1) == TVK_NO_STORE, "none reaches an end");
+    want(tvk_waits_answered(NULL, 1, 1) == TVK_NO_STORE && tvk_waits_answered(&none, 1, 1) == TVK_NO_STORE, "none is answered");
+    told = 7;
+    want(tvk_waits_known(NULL, NULL) == TVK_NO_STORE && tvk_waits_known(&none, &told) == TVK_NO_STORE && !told, "none knows");
+    want(tvk_waits_is_reached(NULL, 1, NULL) == TVK_NO_STORE && tvk_waits_is_reached(&none, 1, &is) == TVK_NO_STORE && !is,
+         "none reads");
+}
+
+static int is_reached(tvk_waits *waits, uint64_t begun) {
+    int is = 7;
+    want(tvk_waits_is_reached(waits, begun, &is) == TVK_OK, "a read isn't told of");
+    return is;
+}
+
+static void wait_for_the_log(void) {
+    tvk_waits waits = TVK_NO_WAITS;
+    uint64_t numbers[3] = {7, 7, 7}, told = 7;
+    while (tvk_waits_open(&waits) == TVK_NO_MEMORY) want(!waits.at, "a handle without memory is open");
+    want(tvk_waits_open(&waits) == TVK_IS_OPEN, "an open handle is opened");
+    for (uint64_t number = 1; number <= 5; number++) {
+        while (tvk_waits_enter(&waits, number == 3 ? 200 : 40, &told) == TVK_NO_MEMORY)
+            want(!told, "what isn't entered has a number");
+        want(told == number, "numbers don't rise by one");
+    }
+    want(tvk_waits_enter(&waits, 1, NULL) == TVK_NULL && tvk_waits_hand_over(&waits, 100, numbers, 3, NULL) == TVK_NULL &&
+         tvk_waits_hand_over(&waits, 100, NULL, 1, &told) == TVK_NULL, "NULL has room for numbers");
+    want(tvk_waits_hand_over(&waits, 100, NULL, 0, &told) == TVK_OK && !told, "some go where there is no room");
+    want((int)tvk_waits_expire(&waits, 2) == TVK_UNREACHABLE && tvk_waits_expire(&waits, 2) == TVK_ABSENT,
+         "one that waited isn't told once");
+    want(tvk_waits_hand_over(&waits, 100, numbers, 3, &told) == TVK_OK && told == 1 && numbers[0] == 1 && numbers[1] == 7,
+         "1 doesn't go");
+    want(tvk_waits_hand_over(&waits, 100, numbers, 3, &told) == TVK_OK && told == 1 && numbers[0] == 3, "3 doesn't go");
+    want(tvk_waits_settle(&waits, 4) == TVK_ABSENT && tvk_waits_settle(&waits, 3) == TVK_OK && tvk_waits_settle(&waits, 3) == TVK_ABSENT,
+         "one that was on its way isn't told once");
+    want((int)tvk_waits_expire(&waits, 1) == TVK_UNKNOWN && tvk_waits_settle(&waits, 1) == TVK_ABSENT, "one on its way isn't told once");
+    want(tvk_waits_hand_over(&waits, 100, numbers, 3, &told) == TVK_OK && told == 2 && numbers[0] == 4 && numbers[1] == 5,
+         "4 and 5 don't go");
+    want(!is_reached(&waits, 0) && !is_reached(&waits, 1), "a read is answered before anything is known");
+    while (tvk_waits_answered(&waits, 20, 8) == TVK_NO_MEMORY) {}
+    while (tvk_waits_answered(&waits, 10, 5) == TVK_NO_MEMORY) {}
+    want(tvk_waits_reach(&waits, 7) == TVK_OK && tvk_waits_known(&waits, &told) == TVK_OK && told == 10,
+         "an end that is reached isn't known");
+    want(is_reached(&waits, 10) && !is_reached(&waits, 11) && tvk_waits_reach(&waits, 6) == TVK_OK && !is_reached(&waits, 20),
+         "a read is early");
+    want(tvk_waits_reach(&waits, 8) == TVK_OK && is_reached(&waits, 20) && !is_reached(&waits, 21) && !is_reached(&waits, 0),
+         "a read is late");
+    want(tvk_waits_answered(&waits, 30, 8) == TVK_OK && tvk_waits_known(&waits, &told) == TVK_OK && told == 30,
+         "an end at once isn't known");
+    want(tvk_waits_close(&waits) == TVK_OK && !waits.at && tvk_waits_close(&waits) == TVK_NO_STORE, "it isn't closed");
+}
+
 int main(void) {
     static char out[BUFSIZ];
     /* (so that no memory of stdio's is refused) */
@@ -400,6 +466,8 @@ int main(void) {
     take_next("behind a snapshot");
     want(tvk_replica_close(&replica) == TVK_OK && !replica.at && tvk_replica_close(&replica) == TVK_NO_STORE, "it isn't closed");
     read_logs();
+    bad_wait_calls();
+    wait_for_the_log();
     puts(differs ? "differs" : "as wanted");
     return differs;
 }

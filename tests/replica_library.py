@@ -351,7 +351,10 @@ class Both:
         self.entries += 1
         self.blocks += len(blocks)
         name, found = f"none-{self.entries}", []  # type: Tuple[str, List[Outcome]]
-        self.replica.on_way[name] = [Waiting(blocks, found.extend)]
+        waiting = Waiting(blocks, found.extend, self.replica.waits.enter(1))
+        self.replica.waits.hand_over(1)
+        self.replica.untold[waiting.number] = waiting
+        self.replica.on_way[name] = [waiting]
         self.replica.apply_entry(Given(name, entry_of(blocks)))  # type: ignore[arg-type]
         right = self.library.take(text_of(blocks))
         wanted(f"what the blocks of entry {self.entries} came to", b"".join(found), right)

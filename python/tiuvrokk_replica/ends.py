@@ -6,54 +6,50 @@ import time
 from typing import Set
 
 from .log import Log
+from .waits import Waits
 
 # Questions on their way at once: who comes while one is needs the next.
 QUESTIONS = 2
 
 
-def now() -> float:
-    """Seconds, those counted in which the machine slept."""
-    return time.clock_gettime(time.CLOCK_BOOTTIME)
+def now() -> int:
+    """Nanoseconds, those counted in which the machine slept."""
+    return time.clock_gettime_ns(time.CLOCK_BOOTTIME)
 
 
 class Ends:
     """When the replica's state was the log's end."""
 
-    def __init__(self, log: Log) -> None:
-        self.log = log
-        self.known = 0.0  # all that the log had then was applied since
-        self.applied = 0  # the revision up to which all was
+    def __init__(self, log: Log, waits: Waits) -> None:
+        self.log, self.waits = log, waits
         self.progress = asyncio.Event()
         self.questions: Set["asyncio.Task[None]"] = set()
         self.is_asking = False  # a question will be put that all may wait for who come before
 
     def reach(self, revision: int) -> None:
         """All entries up to that revision are applied."""
-        self.applied = max(self.applied, revision)
+        self.waits.reach(revision)
         self.progress.set()
-
-    async def wait_for(self, revision: int) -> None:
-        """Until all up to that revision is applied."""
-        while self.applied < revision:
-            self.progress.clear()
-            await self.progress.wait()
 
     async def ask(self) -> None:
         """Asks for the log's end, and waits until that is applied."""
         asked = now()
         self.is_asking = False
-        await self.wait_for(await self.log.end())
-        self.known = max(self.known, asked)
+        self.waits.answered(asked, await self.log.end())
+        while not self.waits.is_reached(asked):
+            self.progress.clear()
+            await self.progress.wait()
 
     async def is_reached(self, limit: float) -> bool:
         """Whether the replica comes to the end that the log has now within so many seconds. A question that was asked before
         says nothing of now."""
         begun = now()
-        while self.known < begun:
+        until = time.monotonic() + limit
+        while not self.waits.is_reached(begun):
             if not self.is_asking and len(self.questions) < QUESTIONS:
                 self.is_asking = True
                 self.questions.add(asyncio.ensure_future(self.ask()))
-            left = max(0.0, begun + limit - now())
+            left = max(0.0, until - time.monotonic())
             done, _ = await asyncio.wait(set(self.questions), timeout=left, return_when=asyncio.FIRST_COMPLETED)
             self.questions -= done
             if not done:
@@ -64,7 +60,7 @@ class Ends:
 
     def age(self) -> float:
         """How many seconds ago the replica's state was the log's end, at most."""
-        return now() - self.known
+        return (now() - self.waits.known()) / 1e9
 
     async def stay(self, limit: float) -> None:
         """Asks again and again, so that the age stays known."""

@@ -15,9 +15,11 @@ CALLS = {
     "tvk_replica_": ("open", "close", "take", "apply", "begin", "try_lines", "block", "end", "keep_up", "renew", "restore", "commits",
                      "answer"),
     "tvk_log_": ("open", "open_behind", "close", "put", "move", "generation", "first_behind", "text"),
+    "tvk_waits_": ("open", "close", "enter", "hand_over", "settle", "expire", "reach", "answered", "known", "is_reached"),
 }
 # Statuses of `tiuvrokk.h` and `tiuvrokk_replica.h`.
 ABSENT, NO_MEMORY, BAD_LINE, NO_ENTRY, WENT_BACK, PARTS_MISSING = 1, 15, 25, 26, 28, 29
+NEVER_HANDED_OVER, HANDED_OVER = 30, 31
 
 Call = Callable[..., int]
 
@@ -31,7 +33,7 @@ class StoreEnded(Exception):
 
 
 class Handle(ctypes.Structure):
-    """`tvk_replica`, `tvk_transaction` and `tvk_log`."""
+    """`tvk_replica`, `tvk_transaction`, `tvk_log` and `tvk_waits`."""
 
     _fields_ = [("at", ctypes.c_void_p)]
 

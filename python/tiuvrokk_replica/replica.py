@@ -7,16 +7,18 @@ import uuid
 from heapq import heappop, heappush
 from itertools import islice
 from operator import itemgetter
-from typing import Any, Callable, Dict, List, Optional, Tuple
+from typing import Any, Callable, Dict, List, NamedTuple, Optional, Tuple
 
 from . import snapshots
 from .ends import Ends
 from .entries import BESIDE, Block, NoEntry, blocks_of, count_of, entry_of, portions, text_of, unpacked
+from .library import StoreEnded
 from .log import Event, Log, News
 from .reader import Entry
 from .store import Store, Trial
 from .trace import Trace
-from .transaction import UNKNOWN, UNREACHABLE
+from .transaction import UNKNOWN
+from .waits import Waits
 
 # Entries on their way at once: more of them make smaller ones, and were slower.
 ENTRIES = 1
@@ -49,19 +51,18 @@ def outcomes_of(answers: bytes, blocks: List[Block], first: int) -> List[Outcome
     return [b"".join(b"%s\n" % line for line in islice(lines, block.awaited)) for block in blocks]
 
 
-class Waiting:
-    """Blocks of a session, which go into one entry, in their order; and who is told what they came to."""
+class Waiting(NamedTuple):
+    """Blocks of a session, which go into one entry, in their order; who is told what they came to; and under which number that
+    is waited for."""
 
-    def __init__(self, blocks: List[Block], tell: Callable[[List[Outcome]], None]) -> None:
-        self.blocks, self.tell = blocks, tell
-        self.size = sum(map(len, map(BODY, blocks))) + BESIDE * len(blocks)
-        self.is_told = False
+    blocks: List[Block]
+    tell: Callable[[List[Outcome]], None]
+    number: int
 
-    def settle(self, outcomes: List[Outcome]) -> None:
-        """Tells it once."""
-        if not self.is_told:
-            self.is_told = True
-            self.tell(outcomes)
+
+def size_of(blocks: List[Block]) -> int:
+    """How many bytes of an entry they are."""
+    return sum(map(len, map(BODY, blocks))) + BESIDE * len(blocks)
 
 
 class Replica:
@@ -70,7 +71,8 @@ class Replica:
     def __init__(self, log: Log, store: Store, blocks_between_snapshots: int, trace: Optional[Trace] = None) -> None:
         self.log, self.store, self.trace = log, store, trace
         self.loop = asyncio.get_running_loop()
-        self.ends = Ends(log)
+        self.waits = Waits()
+        self.ends = Ends(log, self.waits)
         self.blocks_between_snapshots = blocks_between_snapshots
         self.commits = 0
         self.applied = 0  # the revision of the newest entry that was
@@ -78,8 +80,8 @@ class Replica:
         self.conflicts = self.unknown = self.unreachable = 0  # blocks of the log that didn't commit, and own ones told so
         self.name = uuid.uuid4().hex
         self.entries = 0
-        self.queue: List[Waiting] = []
-        self.on_way: Dict[str, List[Waiting]] = {}
+        self.queue: Dict[int, Waiting] = {}  # those that weren't handed over, by their numbers
+        self.on_way: Dict[str, List[Waiting]] = {}  # by the entries that have them
         self.tasks: "asyncio.Queue[asyncio.Task[None]]" = asyncio.Queue()  # that write, for `life` to look at their ends
         self.awaited = 0  # how many sessions wait, or were just told
         self.awaited_until = 0.0
@@ -87,8 +89,8 @@ class Replica:
         self.told_at = 0.0
         self.moment_ends = 0.0  # when what waits goes on its way, whoever comes
         self.moment: Optional[asyncio.TimerHandle] = None
-        self.limits: List[Tuple[float, int, Waiting]] = []  # a heap: until when who waits does, at most
-        self.limited = 0
+        self.untold: Dict[int, Waiting] = {}  # all that wait, by their numbers
+        self.limits: List[Tuple[float, int]] = []  # a heap: until when who waits does, at most
         self.limit: Optional[asyncio.TimerHandle] = None
         self.flushes: List[Callable[[], None]] = []  # those of sessions that are being told something
         self.failure: "asyncio.Future[None]" = self.loop.create_future()  # of what the log's news did
@@ -106,14 +108,19 @@ class Replica:
 
     def hand_in(self, blocks: List[Block], limit: float, tell: Callable[[List[Outcome]], None]) -> None:
         """Has blocks go into the log, and what they came to be told."""
-        now, waiting = self.loop.time(), Waiting(blocks, tell)
-        while self.limits and self.limits[0][2].is_told:
+        try:
+            waiting = Waiting(blocks, tell, self.waits.enter(size_of(blocks)))
+        except StoreEnded as fault:  # (who calls may have no task that could fail)
+            if not self.failure.done():
+                self.failure.set_exception(fault)
+            return
+        now = self.loop.time()
+        self.queue[waiting.number] = self.untold[waiting.number] = waiting
+        while self.limits and self.limits[0][1] not in self.untold:
             heappop(self.limits)
-        self.limited += 1
-        heappush(self.limits, (now + limit, self.limited, waiting))
+        heappush(self.limits, (now + limit, waiting.number))
         if self.limit is None or self.limit.when() > now + limit:
             self.await_limit()
-        self.queue.append(waiting)
         self.came += now < self.told_at + MOMENT
         if len(self.queue) >= self.awaited:
             self.hand_over()
@@ -128,34 +135,35 @@ class Replica:
 
     def pass_limits(self) -> None:
         now = self.loop.time()
-        while self.limits and (self.limits[0][2].is_told or self.limits[0][0] <= now):
-            waiting = heappop(self.limits)[2]
-            if not waiting.is_told:
-                self.expire(waiting)
+        while self.limits and (self.limits[0][1] not in self.untold or self.limits[0][0] <= now):
+            self.expire(heappop(self.limits)[1])
         self.await_limit()
         self.flush_all()
 
-    def expire(self, waiting: Waiting) -> None:
-        end = UNKNOWN
-        if waiting in self.queue:
-            self.queue.remove(waiting)
-            end = UNREACHABLE
+    def expire(self, number: int) -> None:
+        """Tells who waits no longer what is known of its blocks, unless it was told."""
+        end = self.waits.expire(number)
+        if end is None:
+            return
+        self.queue.pop(number, None)
+        waiting = self.untold.pop(number)
         self.unknown += len(waiting.blocks) * (end is UNKNOWN)
-        self.unreachable += len(waiting.blocks) * (end is UNREACHABLE)
-        waiting.settle([undone(block, end) for block in waiting.blocks])
+        self.unreachable += len(waiting.blocks) * (end is not UNKNOWN)
+        waiting.tell([undone(block, end) for block in waiting.blocks])
+
+    def settle(self, waiting: Waiting, outcomes: List[Outcome]) -> None:
+        """Tells what its blocks came to, unless its limit ended before."""
+        if self.waits.settle(waiting.number):
+            del self.untold[waiting.number]
+            waiting.tell(outcomes)
 
     def hand_over(self) -> None:
         """What waits goes on its way, as far as there is room."""
         self.awaited = 0
         while self.queue and len(self.on_way) < ENTRIES:
-            size = count = 0
-            while count < len(self.queue) and (count == 0 or size + self.queue[count].size <= ENTRY):
-                size += self.queue[count].size
-                count += 1
-            some, self.queue = self.queue[:count], self.queue[count:]
             self.entries += 1
             name = f"{self.name}-{self.entries}"
-            self.on_way[name] = some
+            self.on_way[name] = [self.queue.pop(number) for number in self.waits.hand_over(ENTRY)]
             self.write(name)
 
     def hand_over_soon(self) -> None:
@@ -219,7 +227,7 @@ class Replica:
             self.hand_over()
         at = 0
         for waiting in waitings:
-            waiting.settle(outcomes[at:at + len(waiting.blocks)])
+            self.settle(waiting, outcomes[at:at + len(waiting.blocks)])
             at += len(waiting.blocks)
         self.flush_all()
         # (their telling may take longer than a moment)
@@ -295,7 +303,7 @@ class Replica:
         """How it does, for who watches it."""
         on_way = [waiting for some in self.on_way.values() for waiting in some]
         return {"commits": self.commits, "conflicts": self.conflicts, "unknown": self.unknown, "unreachable": self.unreachable,
-                "waiting": sum(len(waiting.blocks) for waiting in self.queue),
+                "waiting": sum(len(waiting.blocks) for waiting in self.queue.values()),
                 "on_way": sum(len(waiting.blocks) for waiting in on_way), "since_snapshot": self.blocks,
                 "generation": self.log.generation, "revision": self.log.seen, "age": f"{self.ends.age():.1f}",
                 "runs": self.store.runs, "member": self.log.etcd.host}

@@ -40,6 +40,8 @@ status_code is.NoEntry = 26
 status_code is.Staged = 27
 status_code is.WentBack = 28
 status_code is.PartsMissing = 29
+status_code is.Unreachable = 30
+status_code is.Unknown = 31
 
 abbrev pub refusal_status : Refusal → Status
 refusal_status NoSuchTx = is.NoTx

@@ -44,6 +44,10 @@ pub enum Status {
     WentBack,
     /// An entry of a replica's log counts, and not all of its pieces were told.
     PartsMissing,
+    /// Blocks of a client were never handed over, and never will be.
+    Unreachable,
+    /// Blocks of a client were handed over, and what they came to isn't known.
+    Unknown,
 }
 
 impl Status {
@@ -82,6 +86,8 @@ impl Status {
             Status::Staged => 27,
             Status::WentBack => 28,
             Status::PartsMissing => 29,
+            Status::Unreachable => 30,
+            Status::Unknown => 31,
         }
     }
 }

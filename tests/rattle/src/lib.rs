@@ -68,5 +68,6 @@ mod transactions;
 mod trees;
 mod trial_lines;
 mod undo;
+mod waits;
 mod workers;
 mod writers;

@@ -1,0 +1,4 @@
+mod Handing
+mod Known
+mod Rising
+mod Told

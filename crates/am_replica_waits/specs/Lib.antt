@@ -1,0 +1,4 @@
+pub mod Ends
+pub mod EndsHistory
+pub mod QueueHistory
+pub mod Queues
