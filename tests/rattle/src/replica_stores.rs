@@ -55,7 +55,8 @@ fn what_commits_stays_and_what_is_tried_goes(rt: HostRuntime) -> Result<(), Fail
         assert_eq!(rt; told[7], found(b"b"));
         store.abort()?;
         // What was tried left places of records, which go; and what was read is merged.
-        store.clean(Range::new(Key::of_u64(0), Key::of_u64(9)).unwrap(), 64);
+        let all = Range::new(Key::of_u64(0), Key::of_u64(9)).unwrap();
+        assert_eq!(rt; store.clean(all, 64), Reply::Cleaned(2));
         store.merge(64);
     }
     let told = store.run(&vec![in alloc; get(1), get(2), get(5)]?)?;
@@ -63,6 +64,10 @@ fn what_commits_stays_and_what_is_tried_goes(rt: HostRuntime) -> Result<(), Fail
         told,
         vec![in alloc; found(b"l"), found(b"a"), Reply::Absent]?
     );
+    store.abort()?;
+    // A trial goes on, an operation at a time.
+    store.run(&vec![in alloc; set(2, b"c")]?)?;
+    assert_eq!(rt; store.go_on(&get(2))?, found(b"c"));
     store.abort()?;
     // Nothing is active, so neither does anything.
     store.commit()?;
