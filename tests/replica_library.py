@@ -25,7 +25,7 @@ from tiuvrokk_replica.lines import is_sure  # noqa: E402
 from tiuvrokk_replica.log import Event, Log  # noqa: E402
 from tiuvrokk_replica.reader import WentBack  # noqa: E402
 from tiuvrokk_replica.replica import Outcome, Replica, Waiting  # noqa: E402
-from tiuvrokk_replica.store import Store as RunningStore  # noqa: E402
+from tiuvrokk_replica.store import Store as RunningStore, runs_of  # noqa: E402
 from tiuvrokk_replica.transaction import Transaction  # noqa: E402
 
 CC = os.environ.get("CC", "cc")
@@ -33,6 +33,8 @@ CC = os.environ.get("CC", "cc")
 STEPS, ENTRIES, CHANGES, SEED = 6000, 400, 20000, 7
 # Statuses of the header, and the part that is a head.
 OK, ABSENT, STAGED, WENT_BACK, PARTS_MISSING = 0, 1, 27, 28, 29
+# Records that one run has no room for.
+TWO_RUNS = 65_538
 HEAD = 2 ** 64 - 1
 CALLS = """\
 GET ant: NONE
@@ -630,6 +632,18 @@ async def random_logs(calls: Any) -> str:
     return found
 
 
+def made_anew() -> str:
+    """A store is made anew whose records take two runs: it has all of them, and as many commits."""
+    store = RunningStore()
+    records = [b"k%06d=%d" % (number, number % 7) for number in range(TWO_RUNS)]
+    store.restore(runs_of(records), 5)
+    store.renew()
+    wanted("the records of a store that was made anew", store.records(), records)
+    wanted("its commits", store.commits, 5)
+    store.close()
+    return f"a store of {TWO_RUNS} records is made anew"
+
+
 def main() -> None:
     with tempfile.TemporaryDirectory() as folder:
         installed = os.path.join(folder, "installed")
@@ -638,6 +652,7 @@ def main() -> None:
         print(f"replica_library: {worked_calls(folder, installed)}")
         os.environ["TIUVROKK_REPLICA_LIBRARY"] = f"{installed}/lib/libtiuvrokk_replica.so"
         calls = ctypes.CDLL(os.environ["TIUVROKK_REPLICA_LIBRARY"])
+        print(f"replica_library: {made_anew()}")
         print(f"replica_library: {random_transactions(calls)}")
         print(f"replica_library: {asyncio.run(running_code(calls))}")
         print(f"replica_library: {asyncio.run(random_logs(calls))}")

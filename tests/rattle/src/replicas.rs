@@ -160,5 +160,11 @@ fn a_transaction_is_told_of_one_state(rt: HostRuntime) -> Result<(), Fail> {
     let last = vec![in alloc; quick.into_block(alloc, &[insert(2)])?]?;
     let told = replica.apply_all(alloc, &last)?;
     assert!(rt; matches!(&told[0], Outcome::Committed(2, replies) if replies[1] == Reply::Done));
+    // Whoever was in conflict stays there, though all that it was told would come again.
+    let gone = [1, 2].map(|key| Op::Delete(Key::of_u64(key)));
+    let back = vec![in alloc; block(Vec::from_array(alloc, gone)?, 0, &[])]?;
+    replica.apply_all(alloc, &back)?;
+    let told = slow.trial(&mut replica.machine, &Founds, &mut None, get(3));
+    assert!(rt; matches!(told, Err(TrialFault::Conflict)));
     Ok(())
 }

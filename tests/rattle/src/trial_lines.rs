@@ -134,6 +134,19 @@ fn lines_are_tried_and_commit(rt: HostRuntime) -> Result<(), Fail> {
 }
 
 #[test]
+fn a_block_tells_how_many_lines_were_answered(rt: HostRuntime) -> Result<(), Fail> {
+    let alloc = rt.alloc();
+    let mut replica = replica(alloc)?;
+    let mut first = begun(alloc)?;
+    answer(alloc, &mut first, &mut replica, b"GET ant")?;
+    answer(alloc, &mut first, &mut replica, b"STAGE bee=1")?;
+    answer(alloc, &mut first, &mut replica, b"LOAD cat=2")?;
+    let block = first.into_block(alloc)?.unwrap();
+    assert!(rt; block.told.is_some_and(|told| told.lines == 3));
+    Ok(())
+}
+
+#[test]
 fn a_conflict_stays(rt: HostRuntime) -> Result<(), Fail> {
     let alloc = rt.alloc();
     let mut replica = replica(alloc)?;
