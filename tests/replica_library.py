@@ -21,11 +21,12 @@ sys.path.insert(0, f"{TOP}/python")
 from tiuvrokk_replica import entries  # noqa: E402
 from tiuvrokk_replica.entries import Block, entry_of, text_of  # noqa: E402
 from tiuvrokk_replica.etcd import Etcd, encoded  # noqa: E402
-from tiuvrokk_replica.lines import is_sure  # noqa: E402
+from tiuvrokk_replica.lines import EVERYTHING, is_sure  # noqa: E402
 from tiuvrokk_replica.log import Event, Log  # noqa: E402
 from tiuvrokk_replica.reader import WentBack  # noqa: E402
 from tiuvrokk_replica.replica import Outcome, Replica, Waiting  # noqa: E402
-from tiuvrokk_replica.store import Store as RunningStore, runs_of  # noqa: E402
+from tiuvrokk_replica.library import StoreEnded  # noqa: E402
+from tiuvrokk_replica.store import Store as RunningStore, Trial, runs_of  # noqa: E402
 from tiuvrokk_replica.transaction import Transaction  # noqa: E402
 
 CC = os.environ.get("CC", "cc")
@@ -33,8 +34,8 @@ CC = os.environ.get("CC", "cc")
 STEPS, ENTRIES, CHANGES, SEED = 6000, 400, 20000, 7
 # Statuses of the header, and the part that is a head.
 OK, ABSENT, STAGED, WENT_BACK, PARTS_MISSING = 0, 1, 27, 28, 29
-# Records that one run has no room for.
-TWO_RUNS = 65_538
+# Records that one run has no room for, the runs that a store makes in its life, and those of a transaction.
+TWO_RUNS, ALL_RUNS, SOME_RUNS = 65_538, 65_535, 4_000
 HEAD = 2 ** 64 - 1
 CALLS = """\
 GET ant: NONE
@@ -644,6 +645,23 @@ def made_anew() -> str:
     return f"a store of {TWO_RUNS} records is made anew"
 
 
+def out_of_runs() -> str:
+    """A store that has made all its runs ends its replica: no line is told that it was refused for that."""
+    store, loads = RunningStore(), 0
+    try:
+        while loads < 2 * ALL_RUNS:
+            store.runs = 0  # (else it is made anew in time)
+            lines = [b"LOAD k%d=1" % number for number in range(loads, loads + SOME_RUNS)]
+            wanted("loads", set(Trial(store).ask([b"LOCK X " + EVERYTHING, *lines])), {b"OK"})
+            loads += SOME_RUNS
+    except StoreEnded:
+        wanted("loads in front of the end", loads, ALL_RUNS // SOME_RUNS * SOME_RUNS)
+    try:
+        fail(f"a store that is out of runs has {store.commits} commits")
+    except StoreEnded:
+        return f"a store that is out of runs has ended, behind {loads} loads that were tried"
+
+
 def main() -> None:
     with tempfile.TemporaryDirectory() as folder:
         installed = os.path.join(folder, "installed")
@@ -653,6 +671,7 @@ def main() -> None:
         os.environ["TIUVROKK_REPLICA_LIBRARY"] = f"{installed}/lib/libtiuvrokk_replica.so"
         calls = ctypes.CDLL(os.environ["TIUVROKK_REPLICA_LIBRARY"])
         print(f"replica_library: {made_anew()}")
+        print(f"replica_library: {out_of_runs()}")
         print(f"replica_library: {random_transactions(calls)}")
         print(f"replica_library: {asyncio.run(running_code(calls))}")
         print(f"replica_library: {asyncio.run(random_logs(calls))}")
