@@ -19,9 +19,9 @@ from support import AMSERVE, LIMIT, TOP, fail, wanted
 sys.path.insert(0, f"{TOP}/python")
 
 from tiuvrokk_replica import entries  # noqa: E402
-from tiuvrokk_replica.entries import Block, entry_of, text_of  # noqa: E402
+from tiuvrokk_replica.entries import ANSWERS, Block, entry_of, text_of  # noqa: E402
 from tiuvrokk_replica.etcd import Etcd, encoded  # noqa: E402
-from tiuvrokk_replica.lines import EVERYTHING, is_sure  # noqa: E402
+from tiuvrokk_replica.lines import EVERYTHING, MOST_ROWS, is_sure  # noqa: E402
 from tiuvrokk_replica.log import Event, Log  # noqa: E402
 from tiuvrokk_replica.reader import WentBack  # noqa: E402
 from tiuvrokk_replica.replica import Outcome, Replica, Waiting  # noqa: E402
@@ -662,6 +662,19 @@ def out_of_runs() -> str:
         return f"a store that is out of runs has ended, behind {loads} loads that were tried"
 
 
+def longest_answers() -> str:
+    """A transaction's answers have room for 64,000,000 bytes: a line whose answer might have none is told so, and what was told counts."""
+    store, left, told = RunningStore(), ANSWERS, 0
+    store.restore(runs_of([b"%032d=%b" % (number, b"v" * 64) for number in range(1000)]), 1)
+    for answer in Trial(store).ask([b"SCAN %b 1000" % EVERYTHING] * 700):
+        has_room = MOST_ROWS <= left
+        wanted("a scan of long records", answer == b"ERR LIMIT", not has_room)
+        left -= len(answer) + 1 if has_room else 0
+        told += has_room
+    store.close()
+    return f"{told} scans of a transaction were answered, and no more"
+
+
 def main() -> None:
     with tempfile.TemporaryDirectory() as folder:
         installed = os.path.join(folder, "installed")
@@ -672,6 +685,7 @@ def main() -> None:
         calls = ctypes.CDLL(os.environ["TIUVROKK_REPLICA_LIBRARY"])
         print(f"replica_library: {made_anew()}")
         print(f"replica_library: {out_of_runs()}")
+        print(f"replica_library: {longest_answers()}")
         print(f"replica_library: {random_transactions(calls)}")
         print(f"replica_library: {asyncio.run(running_code(calls))}")
         print(f"replica_library: {asyncio.run(random_logs(calls))}")
