@@ -1,7 +1,8 @@
 #!/usr/bin/env python3
 """The proved rules of replicas as a library: worked and bad calls of tiuvrokk_replica.h from C, with each allocation refused in turn;
-then random transactions of three sessions, tried and taken as entries by two replicas, against what `amserve alone` answers to
-the same lines; and random trials, entries and changes of a log against what `amreplica` makes of them, and a plain reader."""
+a store that is made anew, one that is out of runs, and answers as long as a transaction may have; then random transactions of three
+sessions, tried and taken as entries by two replicas, against what `amserve alone` answers to the same lines; and random trials,
+entries and changes of a log against what `amreplica` makes of them, and a plain reader."""
 
 import asyncio
 import ctypes
