@@ -660,6 +660,7 @@ def out_of_runs() -> str:
     try:
         fail(f"a store that is out of runs has {store.commits} commits")
     except StoreEnded:
+        store.close()
         return f"a store that is out of runs has ended, behind {loads} loads that were tried"
 
 
