@@ -177,13 +177,13 @@ def audit(programs: Programs, megabytes: int, trace: str, wanted: str) -> str:
 
 
 def small_stacks(programs: Programs) -> int:
-    """How many programs don't say that they have no memory where their stack is limited to less than they need."""
+    """How many programs don't say that their stack is limited to less than they need."""
     wrong = 0
     for kilobytes in (160, 200, 300, 500):
         for words in ([programs.alone, "alone"], [programs.server, "listen", "--port", "0"], [programs.auditor]):
             limited_stack = ["/bin/sh", "-c", 'ulimit -s "$0" && exec "$@"', str(kilobytes), *words]
             run = subprocess.run(limited_stack, input="", capture_output=True, text=True, timeout=LIMIT, check=False)
-            if (run.returncode, run.stdout) != (5, "") or not run.stderr.endswith(": no memory\n"):
+            if (run.returncode, run.stdout) != (5, "") or not run.stderr.endswith(": the stack is limited to less than 512 KB (ulimit -s)\n"):
                 print(f"address space: {words} with a stack of {kilobytes} KB: status {run.returncode}, {run.stdout!r} and {run.stderr!r}")
                 wrong += 1
     return wrong

@@ -142,17 +142,34 @@ def back_and_forth(folder: str) -> None:
 def by_socket(folder: str) -> None:
     """A server that has a socket alone."""
     path = os.path.join(folder, "socket")
-    words = [built("am_program_listen"), "listen", "--socket", path, "--sessions", "3", "--workers", "0"]
+    words = [built("am_program_listen"), "listen", "--socket", path, "--sessions", "5", "--workers", "0"]
     with subprocess.Popen(words, stdin=subprocess.DEVNULL, stdout=subprocess.PIPE, text=True) as server:
         assert server.stdout
         wanted("where it listens", server.stdout.readline(), f"LISTEN {path}\n")
         wanted("a load", run(AMLOAD, "--socket", path, text="ant\tsix\nbee\tsix\n"), (0, "", ""))
         wanted("a dump", run(AMDUMP, "--socket", path), (0, "ant\tsix\nbee\tsix\n", ""))
+        files_of_dumps(folder, path)
         wanted("a shell", run(AMCLI, "--socket", path, "--raw", text="GET ant\n"), (0, "VAL six\n", ""))
         wanted("its end", server.stdout.read().split()[0], "CLOSED")
     wanted("its status", server.returncode, 0)
     wanted("a server that isn't there", run(AMDUMP, "--socket", path)[0], 5)
     wanted("both", run(AMDUMP, "--socket", path, "--port", "1")[0], 2)
+
+
+def files_of_dumps(folder: str, path: str) -> None:
+    """A dump may be read by those who may read the file in whose place it comes, and follows no link on its way."""
+    kept, secret = os.path.join(folder, "kept"), os.path.join(folder, "secret")
+    with open(secret, "w", encoding="ascii") as file:
+        file.write("somebody's")
+    os.symlink("secret", f"{kept}.part")
+    for mode in (0o644, 0o600):
+        wanted("a dump into a file", run(AMDUMP, "--socket", path, kept), (0, "", ""))
+        with open(kept, encoding="ascii") as file:
+            wanted("what it has", file.read(), "ant\tsix\nbee\tsix\n")
+        if mode == 0o600:
+            wanted("who may read it", os.stat(kept).st_mode & 0o777, mode)
+        os.chmod(kept, 0o600)
+    wanted("where the link led", os.path.getsize(secret), 10)
 
 
 def refused_dumps(server: Server) -> None:
@@ -191,6 +208,26 @@ def server_goes_away() -> None:
     server.join(LIMIT)
     listener.close()
     wanted("a server that goes away", (status, out, said.startswith("amdump: port ")), (5, "", True))
+
+
+def no_seat() -> None:
+    """A server that serves no further session says so, and closes: the shell tells it, whatever was asked first."""
+    listener = socket.create_server(("127.0.0.1", 0))
+    port = listener.getsockname()[1]
+
+    def refuse() -> None:
+        for _ in range(2):
+            session, _ = listener.accept()
+            session.sendall(b"ERR SESSIONS\n")
+            session.shutdown(socket.SHUT_WR)
+            session.recv(1000)
+            session.close()
+
+    threading.Thread(target=refuse, daemon=True).start()
+    told = f"amcli: port {port}: answered ERR SESSIONS: it serves no further session now\n"
+    for line in ("get a", "seen"):
+        wanted(line, run(AMCLI, "--port", str(port), text=f"{line}\n"), (5, "", told))
+    listener.close()
 
 
 def lines_of_a_pipe(folder: str) -> None:
@@ -295,6 +332,36 @@ def server_comes_back(folder: str) -> None:
     again.communicate(timeout=LIMIT)
 
 
+def beside_others(folder: str) -> None:
+    """A .load, a .dump and a .count hold the server, and try again where a lock is in their way; what can't be dumped leaves the file
+    that it should renew."""
+    server = Server("--sessions", "4")
+    port, kept = str(server.port), os.path.join(folder, "backup")
+    with open(kept, "w", encoding="ascii") as file:
+        file.write("a backup")
+    other = Client(server.port)
+    wanted("a lock", other.ask_all(["BEGIN", "INS k v"])[1], "OK")
+    status, out, said = run(AMCLI, "--port", port, "--strict", text=f".dump {kept}\n")
+    is_told = bool(re.fullmatch("amcli: line 1: answered ERR HELD [0-9]+ at try 5: not all records were read\n", said))
+    wanted("beside a transaction that stays", (status, out, is_told), (1, "", True))
+    with open(kept, encoding="ascii") as file:
+        wanted("what it should renew", file.read(), "a backup")
+    wanted("what lies beside it", os.path.exists(f"{kept}.part"), False)
+    later = threading.Timer(1, lambda: other.ask("COMMIT"))
+    later.start()
+    wanted("beside one that ends", run(AMCLI, "--port", port, "--strict", text=f".dump {kept}\n.count\n"), (0, "dumped 1\n1\n", ""))
+    later.join()
+    wanted("a lock", other.ask_all(["BEGIN", "GET a"])[1], "NONE")
+    later = threading.Timer(1, lambda: other.ask("COMMIT"))
+    later.start()
+    with open(os.path.join(folder, "one"), "w", encoding="ascii") as file:
+        file.write("a=1\n")
+    wanted("a load beside it", run(AMCLI, "--port", port, "--strict", text=f".load {folder}/one\n"), (0, "loaded 1\n", ""))
+    later.join()
+    other.quit()
+    server.closed()
+
+
 def help_is_the_document() -> None:
     """HELP has the table of the protocol's document, word for word."""
     with open(f"{TOP}/docs/protocol.md", encoding="utf-8") as file:
@@ -374,6 +441,7 @@ def at_a_terminal(folder: str) -> None:
     if not os.path.exists(kept):
         print("cli: this Python has no readline")
         return
+    wanted("who may read it", os.stat(kept).st_mode & 0o777, 0o600)
     with open(kept, encoding="utf-8") as file:
         lines: List[str] = [line.strip() for line in file if not line.startswith("_HiStOrY")]
     wanted("what was typed", lines, ["ins elephant grey", "BEGIN", "get elephant", ".time on", "scan a z 5", "commit"])
@@ -386,7 +454,7 @@ def interrupted_load(folder: str) -> None:
         file.writelines(f"{number:07}\tv\n" for number in range(200_000))
     terminal = Terminal(AMCLI, "--store", AMSERVE, home=folder)
     terminal.see("tiuvrokk> ")
-    for reads in (r" of [0-9.]+ MB, [0-9]+ records/s *\r", r"records/s, [0-9]+ s left"):
+    for reads in (r" of [0-9.]+ MB(, [0-9]+ records/s)? *\r", r"records/s, [0-9]+ s left"):
         terminal.type(f".load {path}\n")
         terminal.see(reads)
         terminal.type("\x03")
@@ -404,7 +472,7 @@ def progress_at_a_terminal(folder: str) -> None:
         file.writelines(f"{number:06}=v\n" for number in range(1000))
     terminal = Terminal("/bin/sh", "-c", f"{AMLOAD} --run 500 {path} >/dev/null; sleep 0.1; echo end", home=folder)
     shown = terminal.see("end\r\n")
-    wanted("progress", bool(re.search(r"0\.0 MB, [0-9]+ records/s, 0 s left *\r\n", shown)), True)
+    wanted("progress", bool(re.search(r"0\.0 MB, [1-9][0-9]* records/s, 0 s left *\r\n", shown)) and " 0 records/s" not in shown, True)
     wanted("the end of the shell", terminal.status(), 0)
 
 
@@ -451,9 +519,11 @@ def main() -> None:
     runs_on_the_oldest_python()
     help_is_the_document()
     server_goes_away()
+    no_seat()
     with tempfile.TemporaryDirectory() as folder:
         pictures(folder)
         by_socket(folder)
+        beside_others(folder)
         lines_of_a_pipe(folder)
         what_is_wrong(folder)
         any_text(folder)

@@ -99,6 +99,20 @@ def ends(store: Store) -> None:
         wanted("what savepoints and aborts left", dict(tx), {b"kept": b"1", b"kept2": b"1"})
 
 
+def one_by_one(store: Store) -> None:
+    """Operations that are their own transactions."""
+    before = store.commits
+    store["own"], store["own2"] = "1", "2"
+    wanted("a read", (store["own"], store.get("own"), store.get("none"), store.get("none", b"-")), (b"1", b"1", None, b"-"))
+    wanted("what is there", ("own" in store, "none" in store, bool(store)), (True, False, True))
+    wanted("a range", store["own":"p"], [(b"own", b"1"), (b"own2", b"2")])  # type: ignore[misc]
+    wanted("all keys", (len(store), sorted(store)[-2:]), (len(list(store)), [b"own", b"own2"]))
+    del store["own"]
+    raised(tiuvrokk.Absent, lambda: store["own"])
+    del store["own2"]
+    wanted("whether they committed", store.commits > before, True)
+
+
 def many(store: Store) -> None:
     """Loads, pages, and reads of more records than a transaction has locks."""
     rows = {b"k%05d" % (number * 7 % 3001): b"%d" % number for number in range(3001)}
@@ -264,7 +278,7 @@ def emptied(connected: Callable[[], Any]) -> Iterator[Any]:
 
 def all_cases(fresh: Callable[[], Any], calls: int = 2000) -> None:
     """All of it; `fresh` gives a store that has no records, as the head of a `with` block."""
-    for case in (as_a_mapping, types_and_bounds, ends, many, back_and_away):
+    for case in (as_a_mapping, one_by_one, types_and_bounds, ends, many, back_and_away):
         with fresh() as store:
             case(store)
     with fresh() as store:

@@ -179,6 +179,45 @@ def beside_a_hold() -> None:
     stopped(server)
 
 
+def nothing_behind_its_end(folder: str) -> None:
+    """Lines of a session that waits, of its HOLD or for another's: once END of it was answered none is taken, whether its client is
+    there or not. Those of others are."""
+    trace = os.path.join(folder, "taken")
+    server = staying("--workers", "0", trace=trace)
+    holder, asking = Client(server.port), Client(server.port)
+    commits = 0
+    for how in ("waits", "was killed", "would hold"):
+        ended = Client(server.port)
+        number = number_of(ended)
+        lines_of = b"BEGIN\nSET z 1\nCOMMIT\n"
+        if how == "would hold":
+            wanted("a transaction", holder.ask("BEGIN").split()[0], "BEGUN")
+            lines_of = b"HOLD 60000\n" + lines_of
+        else:
+            wanted("a hold", holder.ask("HOLD 60000"), "OK")
+        ended.socket.sendall(lines_of)
+        time.sleep(0.3)
+        if how == "was killed":
+            ended.socket.close()
+        begun = time.monotonic()
+        wanted(f"the end of one that {how}", asking.ask(f"END {number}"), "OK")
+        wanted("which is gone then", (time.monotonic() - begun < 0.9, asking.ask(f"END {number}")), (True, "ERR SESSION"))
+        if how != "would hold":
+            wanted("the hold's end", holder.ask("BEGIN").split()[0], "BEGUN")
+        wanted("another's lines", holder.ask_all([f"SET {how[0]} 1", "COMMIT"])[1].split()[0], "COMMITTED")
+        commits += 1
+        time.sleep(0.3)
+        wanted(f"nothing of one that {how}", asking.ask_all(["BEGIN", "GET z", "ABORT"])[1], "NONE")
+        wanted("commits", int(asking.ask("SEEN").split()[2]), commits)
+        ended.socket.close()
+    for client in (holder, asking):
+        client.quit()
+    stopped(server)
+    with open(trace, encoding="ascii") as file:
+        wanted("what was taken", [line for line in file if line.startswith("SET ") and " z " in line], [])
+    wanted("the trace", audit(trace)[:6], "LEGAL ")
+
+
 def many() -> None:
     """64 transactions at once are one long line."""
     server = staying("--sessions", "80", "--workers", "0")
@@ -229,6 +268,8 @@ def main() -> None:
     entries()
     ends()
     beside_a_hold()
+    with tempfile.TemporaryDirectory() as folder:
+        nothing_behind_its_end(folder)
     many()
     in_python()
     print("ending: who has a transaction active, and an end to a stopped one, to oneself and beside a hold")

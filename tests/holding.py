@@ -6,6 +6,7 @@ import os
 import random
 import signal
 import socket
+import struct
 import subprocess
 import sys
 import tempfile
@@ -417,7 +418,7 @@ def holds_beside_those_that_wait() -> None:
     clients, holder = begun(server), Client(server.port)
     late = waiting(server, 70, 0)
     sent(holder, "HOLD 20000")
-    wanted("a hold waits for transactions", is_silent(holder, 1.5), True)
+    wanted("a hold waits for transactions", is_silent(holder, 0.5), True)
     for client in clients:
         wanted("an end", client.ask("COMMIT").split()[0], "COMMITTED")
     answer, took = seconds(holder.reply)
@@ -474,9 +475,112 @@ def crowd() -> None:
         client.socket.close()
 
 
+def gone(client: Client, how: str) -> None:
+    """Its client goes away: closed, or reset."""
+    if how == "reset":
+        client.socket.setsockopt(socket.SOL_SOCKET, socket.SO_LINGER, struct.pack("ii", 1, 0))
+    client.socket.close()
+
+
+def waits_that_end() -> None:
+    """A HOLD that waits ends with its session: closed, reset, or ended by END. Others go on then, another may hold, and its seat is
+    free."""
+    for how in ("closed", "reset", "ended"):
+        server = staying("--sessions", "4", "--workers", "0")
+        working, waits, other = (Client(server.port) for _ in range(3))
+        number = waits.ask("SEEN").split()[1]
+        wanted("a transaction", working.ask("BEGIN"), "BEGUN 1")
+        sent(waits, "HOLD 60000")
+        wanted(f"a hold waits ({how})", is_silent(waits), True)
+        if how == "ended":
+            answer, took = seconds(lambda: other.ask(f"END {number}"))
+            wanted("its end", (answer, took < 0.9), ("OK", True))
+        else:
+            gone(waits, how)
+        answer, took = seconds(lambda: other.ask("SEEN"))
+        wanted(f"others go on ({how})", (answer.split()[0], took < 2), ("SEEN", True))
+        holder = working.ask("SEEN").split()[1]
+        wanted(f"another asks ({how})", other.ask("HOLD 50"), f"ERR HELD {holder}")
+        late = [Client(server.port) for _ in range(2)]
+        wanted(f"seats ({how})", [client.ask("SEEN").split()[0] for client in late], ["SEEN"] * 2)
+        wanted("the transaction", working.ask("COMMIT"), "COMMITTED 1")
+        wanted("then it holds", other.ask("HOLD 50"), "OK")
+        for client in (working, other, *late):
+            client.quit()
+        stopped(server)
+
+
+def half_closed() -> None:
+    """A client that has said all that it will still holds where nobody is in its way, and gives way where one is."""
+    server = staying("--workers", "0")
+    working, client = Client(server.port), Client(server.port)
+    client.socket.sendall(b"HOLD 20000\nBEGIN\nCOMMIT\n")
+    client.socket.shutdown(socket.SHUT_WR)
+    wanted("nobody is in its way", [client.reply() for _ in range(3)], ["OK", "BEGUN 1", "COMMITTED 1"])
+    number = working.ask("SEEN").split()[1]
+    wanted("a transaction", working.ask("BEGIN"), "BEGUN 2")
+    client = Client(server.port)
+    client.socket.sendall(b"HOLD 20000\nSEEN\n")
+    client.socket.shutdown(socket.SHUT_WR)
+    answer, took = seconds(client.reply)
+    wanted("one is", (answer, took < MARGIN, client.reply().split()[0]), (f"ERR HELD {number}", True, "SEEN"))
+    working.quit()
+    stopped(server)
+
+
+def beside_a_sleeper() -> None:
+    """Beside a transaction that sleeps a hold keeps others out for the first tenth of its time and the last, and lets them in between.
+    It has the store once the transaction has ended."""
+    server = staying("--workers", "0")
+    sleeper, holder = Client(server.port), Client(server.port)
+    number = sleeper.ask("SEEN").split()[1]
+    wanted("a transaction", sleeper.ask("BEGIN"), "BEGUN 1")
+    sent(holder, "HOLD 6000")
+    readers = Beside(read, server.port, 2)
+    answer, took = seconds(holder.reply)
+    wanted("the hold", (answer, 5.9 <= took <= 6 + MARGIN), (f"ERR HELD {number}", True))
+    readers.end()
+    wanted("others waited for a tenth", readers.longest < 3, True)
+    wanted("and went on", readers.steps > 50, True)
+    sent(holder, "HOLD 10000")
+    readers = Beside(read, server.port, 2)
+    time.sleep(2)
+    wanted("the sleeper's end", sleeper.ask("COMMIT").split()[0], "COMMITTED")
+    wanted("then it holds", holder.reply(), "OK")
+    wanted("and begins", holder.ask_all(["BEGIN", "COMMIT"])[1].split()[0], "COMMITTED")
+    readers.end()
+    for client in (sleeper, holder):
+        client.quit()
+    stopped(server)
+
+
+def holds_again() -> None:
+    """A session that holds and asks again: who waited goes on before, and its time counts from its OK."""
+    server = staying("--workers", "0")
+    holder, other = Client(server.port), Client(server.port)
+    wanted("a hold", holder.ask("HOLD 20000"), "OK")
+    sent(other, "BEGIN")
+    wanted("another waits", is_silent(other), True)
+    sent(holder, "HOLD 20000")
+    wanted("it goes on before", other.reply().split()[0], "BEGUN")
+    wanted("which is in the way", is_silent(holder), True)
+    wanted("its end", other.ask("COMMIT").split()[0], "COMMITTED")
+    wanted("then it holds", holder.reply(), "OK")
+    wanted("a shorter one", holder.ask("HOLD 1000"), "OK")
+    answer, took = seconds(lambda: other.ask("SEEN"))
+    wanted("for its time", (answer.split()[0], 0.8 <= took <= 1 + MARGIN), ("SEEN", True))
+    for client in (holder, other):
+        client.quit()
+    stopped(server)
+
+
 def main() -> None:
     """All of it."""
     lines()
+    waits_that_end()
+    half_closed()
+    beside_a_sleeper()
+    holds_again()
     with tempfile.TemporaryDirectory() as folder:
         held(folder)
     times()

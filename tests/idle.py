@@ -8,7 +8,7 @@ import subprocess
 import sys
 import tempfile
 import time
-from typing import Any, List, Tuple
+from typing import Any, List, Tuple, Union
 
 sys.dont_write_bytecode = True
 from support import LIMIT, TOP, Client, Server, audit, fail, wanted  # noqa: E402
@@ -202,6 +202,37 @@ def all_tickets() -> None:
     stopped(server)
 
 
+def takes_nothing(folder: str) -> None:
+    """A session that takes no answers while its transaction has locks, at a port and at a socket: after so long the transaction is
+    aborted, and the session ends. Its lines wait in the socket meanwhile, and one that came later isn't answered any more."""
+    path = os.path.join(folder, "taken")
+    server = staying("--idle-transaction", str(SECONDS), "--socket", path)
+    working = Client(server.port)
+    places: List[Union[int, str]] = [server.port, path]
+    for number, place in enumerate(places, 1):
+        deaf = Client(place)
+        records = " ".join(f"k{n:03}={'v' * 8}" for n in range(250))
+        wanted("a transaction", deaf.ask_all(["BEGIN", f"LOCK X {ALL}", f"PUT {records}"])[1:], ["OK", "OK"])
+        # (20 MB of answers, which no pair of sockets holds)
+        deaf.socket.sendall(b"SCAN k l 1000\n" * 4000)
+        wanted("another's transaction", working.ask("BEGIN").split()[0], "BEGUN")
+        took = until(working, f"SET w {number}", "OK")
+        wanted(f"how long it took ({took:.1f} s)", SECONDS - 0.5 <= took <= SECONDS + MARGIN, True)
+        wanted("what it had put", working.ask_all(["SCAN k l 1", "COMMIT"]), ["ROWS 0", f"COMMITTED {number}"])
+        wanted("who is left", working.ask("WHO"), "WHO 0")
+        deaf.socket.close()
+    # (who takes them in the end, though late, is answered)
+    late = Client(path)
+    wanted("a transaction", late.ask_all(["BEGIN", f"PUT {records}"])[1], "OK")
+    late.socket.sendall(b"SCAN k l 1000\n" * 4000)
+    time.sleep(SECONDS / 4)
+    wanted("answers that come late", {late.reply().split(" k001", 1)[0] for _ in range(4000)}, {f"ROWS 250 k000={'v' * 8}"})
+    wanted("and the end", late.ask("COMMIT"), "COMMITTED 3")
+    for client in (late, working):
+        client.quit()
+    stopped(server)
+
+
 def clients() -> None:
     """What the client in Python and the shell say of it."""
     server = staying("--idle-transaction", "1")
@@ -251,13 +282,14 @@ def main() -> None:
     signal.signal(signal.SIGINT, signal.default_int_handler)
     with tempfile.TemporaryDirectory() as folder:
         stopped_clients(folder)
+        takes_nothing(folder)
     who_works()
     half_lines()
     limits()
     holds()
     all_tickets()
     clients()
-    print("idle: stopped clients with wide locks beside one that works, half lines, limits, holds beside a transaction that sleeps, 64 that sleep, and what clients say")
+    print("idle: stopped clients with wide locks beside one that works, half lines, limits, holds beside a transaction that sleeps, 64 that sleep, sessions that take no answers, and what clients say")
 
 
 main()

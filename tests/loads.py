@@ -1,6 +1,7 @@
 #!/usr/bin/env python3
 """`amload` and the lines that it writes, from outside: records that are staged and loaded, through a pipe and by a server."""
 
+import contextlib
 import os
 import signal
 import socket
@@ -8,12 +9,13 @@ import subprocess
 import sys
 import tempfile
 import threading
-from typing import List, Optional, Tuple
+from typing import List, Optional, Tuple, Union
 
 sys.dont_write_bytecode = True
 from support import AMLOAD, AMSERVE, LIMIT, TOP, Client, Server, alone, audit, fail, wanted  # noqa: E402
 
 sys.path.insert(0, f"{TOP}/python")
+import tiuvrokk  # noqa: E402
 from tiuvrokk_tools.escapes import escaped_key, escaped_value, unescaped_line, unescaped_lines  # noqa: E402
 from tiuvrokk_tools.records import RECORD  # noqa: E402
 
@@ -296,12 +298,75 @@ def answered(answer: Optional[bytes], *words: str) -> Tuple[int, str, str]:
     return said
 
 
+def answers_one_by_one(folder: str) -> None:
+    """A server at a socket that writes each answer by itself: a socket of the file system takes some 280 of these before somebody
+    reads them, so whoever loads hears while it sends."""
+    path, data = os.path.join(folder, "one by one"), os.path.join(folder, "most")
+    listener = socket.socket(socket.AF_UNIX)
+    listener.bind(path)
+    listener.listen()
+    answers = {b"BEGIN": b"BEGUN 1\n", b"COMMIT": b"COMMITTED 1\n", b"REPLICA": b"ERR SYNTAX\n", b"QUIT": b"BYE\n"}
+
+    def serve() -> None:
+        for _ in range(2):
+            session, _ = listener.accept()
+            with contextlib.suppress(OSError), session, session.makefile("rb") as lines:
+                for line in lines:
+                    session.sendall(answers.get(line.split()[0], b"OK\n"))
+
+    threading.Thread(target=serve, daemon=True).start()
+    rows = {f"{number:032}": f"{number:064}" for number in range(65_536)}
+    with open(data, "w", encoding="ascii") as file:
+        file.writelines(f"{key}\t{value}\n" for key, value in rows.items())
+    wanted("amload", amload("--socket", path, "--wait", "30", data), (0, "", ""))
+    with tiuvrokk.connect(path=path, timeout=30) as client:
+        wanted("the package's client", client.load(rows), len(rows))
+    listener.close()
+
+
+def by_a_socket(folder: str) -> None:
+    """The same by a server."""
+    path, data = os.path.join(folder, "door"), os.path.join(folder, "most")
+    server = Server("--sessions", "2", "--workers", "0", path=path)
+    wanted("amload", amload("--socket", path, "--wait", "60", data), (0, "", ""))
+    with tiuvrokk.connect(path=path, timeout=60) as client:
+        wanted("the package's client", client.load({f"k{number:031}": f"{number:064}" for number in range(65_536)}), 65_536)
+    wanted("the commits", server.closed()[1], 2)
+
+
+def no_room_for_files() -> None:
+    """What waits finds no file."""
+    run = subprocess.run(["sh", "-c", 'ulimit -f 0 && exec "$0"', AMLOAD], input="a=1\n", capture_output=True, text=True, timeout=LIMIT, check=False)
+    told = run.stderr.startswith("amload: no file for what waits: No usable temporary directory found")
+    wanted("no room for files", (run.returncode, run.stdout, told), (4, "", True))
+
+
 def odd_servers() -> None:
     """Servers that don't answer, or not by the protocol."""
     status, out, said = answered(None, "--wait", "1")
     wanted("no answer in time", (status, out, said.endswith(": no answer in time\n")), (5, "", True))
     told = (1, "", "amload: answered \\xff\\xfe: nothing was loaded\n")
     wanted("an answer that isn't UTF-8", answered(b"\xff\xfe\n", "--wait", "1"), told)
+
+
+def read_at_the_end() -> None:
+    """65,536 records of 32 and 64 bytes, by a client that reads no answer before it has sent its last line, at a port and at a socket
+    of the file system: of that the system keeps some 280 small answers."""
+    with tempfile.TemporaryDirectory() as folder:
+        path = os.path.join(folder, "door")
+        server = Server("--sessions", "1", "--socket", path)
+        places: List[Union[int, str]] = [server.port, path]
+        for number, place in enumerate(places, 1):
+            client = Client(place)
+            client.socket.settimeout(30)
+            fields = [f"{number}{n:031}={'v' * 64}" for n in range(65536)]
+            lines = ["BEGIN", *(f"STAGE {' '.join(fields[at:at + 40])}" for at in range(0, len(fields), 40))]
+            lines[-1] = lines[-1].replace("STAGE", "LOAD")
+            client.socket.sendall("".join(f"{line}\n" for line in [*lines, "COMMIT"]).encode())
+            told = [client.reply() for _ in range(len(lines) + 1)]
+            wanted("the answers", (told[0], set(told[1:-1]), told[-1]), (f"BEGUN {number}", {"OK"}, f"COMMITTED {number}"))
+            client.quit()
+        server.end()
 
 
 def main() -> None:
@@ -313,14 +378,18 @@ def main() -> None:
     updates()
     real_text()
     most_staged()
+    read_at_the_end()
     closed_streams()
     odd_servers()
+    no_room_for_files()
     with tempfile.TemporaryDirectory() as folder:
         refusals(folder)
         many_pieces(folder)
         interrupted(folder)
         piped(folder)
         served(folder)
+        answers_one_by_one(folder)
+        by_a_socket(folder)
     with tempfile.TemporaryDirectory() as folder:
         most_staged_by_a_server(folder)
     gone()

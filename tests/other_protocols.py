@@ -27,10 +27,16 @@ CLOSED: List[Sequence[bytes]] = [
     [b"GET / HTTP/1.1", b"\r\n" + BODY],
     [b"Ho", b"st", b": a", b"\r\n" + BODY],
     [HELLO],
-    [b"\n" + BODY],
-    [b" BEGIN\n" + BODY],
-    [b"begin\n" + BODY],
     [b"\x80"],
+    [b"\x00" + BODY],
+    [b"\x7f" + BODY],
+    [b"post /a HTTP/1.1\n" + BODY],
+    [b"*a /a HTTP/1.1\n" + BODY],
+]
+# What a person may begin with, and the answers: it's a line as others are.
+TYPED = [
+    (b"\nSEEN x\nQUIT\n", "ERR SYNTAX\nERR SYNTAX\nBYE\n"), (b"\r\nQUIT\n", "ERR SYNTAX\nBYE\n"), (b"begin\nQUIT\n", "ERR SYNTAX\nBYE\n"),
+    (b" BEGIN\nQUIT\n", "ERR SYNTAX\nBYE\n"), (b"?", "ERR SYNTAX\n"), (b"\t\nQUIT\n", "ERR SYNTAX\nBYE\n"),
 ]
 # Lines of the protocol that look alike, and their answers.
 OWN = [
@@ -64,6 +70,8 @@ def other_protocols(connected: Callable[[], socket.socket]) -> None:
     """All of it, by connections to one server: as many as `CONNECTIONS`."""
     for pieces in CLOSED:
         wanted(f"the answer to {b''.join(pieces)[:60]!r} in {len(pieces)} pieces", answers(connected, pieces), "")
+    for typed, answered in TYPED:
+        wanted(f"the answer to {typed!r}", answers(connected, [typed], ends=True), answered)
     begun = b"BEGIN\nINS open 1\n"
     for line in (b"GET / HTTP/1.1\r\n", b"Host: a\n", b"POST %s HTTP/1.1\r\nHost: a\n" % LONG):
         told = "BEGUN\nOK\n" + ("ERR LONG\n" if LONG in line else "")
@@ -80,4 +88,4 @@ def other_protocols(connected: Callable[[], socket.socket]) -> None:
     wanted("what stands", answers(connected, [asked]), "BEGUN\nNONE\nNONE\nVAL 1\nVAL 1\nVAL 1\nCOMMITTED\nBYE\n")
 
 
-CONNECTIONS = len(CLOSED) + 10
+CONNECTIONS = len(CLOSED) + len(TYPED) + 10

@@ -203,21 +203,19 @@ async def cancelled(one: tiuvrokk.aio.Client, other: tiuvrokk.aio.Client) -> Non
 
 
 def dropped(server: Server) -> None:
-    """A transaction that is dropped is aborted before its client's next line, and so is one that stands before
-    the next one begins."""
+    """A transaction that is dropped is aborted before its client's next line, and one that stands goes on where another is begun."""
     with tiuvrokk.connect(port=server.port) as client, warnings.catch_warnings(record=True) as told:
         warnings.simplefilter("always")
         client.transaction().update(dropped="1")
         wanted("a warning", [it.category for it in told if "dropped" in str(it.message)], [ResourceWarning])
         wanted("what it wrote", client.run(lambda tx: "dropped" in tx), False)
 
-        def nested() -> None:
-            with client.transaction() as tx:
-                tx["dropped"] = "2"
-                with client.transaction() as other:
-                    wanted("what the one before wrote", "dropped" in other, False)
-
-        raised(tiuvrokk.NoTransaction, nested)
+        with client.transaction() as tx:
+            tx["dropped"] = "2"
+            raised(RuntimeError, client.transaction)
+            raised(RuntimeError, lambda: client["dropped"])
+        wanted("what goes on", client["dropped"], b"2")
+        del client["dropped"]
 
 
 def lost(server: Server) -> None:
@@ -226,7 +224,7 @@ def lost(server: Server) -> None:
 
         def cut(tx: Any) -> None:
             tx["lost"] = "1"
-            client._wire._socket.shutdown(socket.SHUT_RDWR)
+            client._wire._stream._socket.shutdown(socket.SHUT_RDWR)
             with contextlib.suppress(OSError):
                 tx.get("a")
 
@@ -236,7 +234,7 @@ def lost(server: Server) -> None:
 
         def cut_at_the_end(tx: Any) -> None:
             tx.get("a")
-            client._wire._socket.shutdown(socket.SHUT_WR)
+            client._wire._stream._socket.shutdown(socket.SHUT_WR)
 
         raised(tiuvrokk.Unknown, lambda: client.run(cut_at_the_end))
 
@@ -312,7 +310,7 @@ def odd_answers() -> None:
     with tiuvrokk.connect(port=odd.port) as client:
         wanted("a load of a server that can't be held", client.load({"a": "1"}), 1)
         raised(tiuvrokk.Refused, lambda: client.hold(100))
-    wanted("its lines", odd.lines[1:5], [b"HOLD 2000", b"BEGIN", b"LOAD a=1", b"COMMIT"])
+    wanted("its lines", odd.lines[1:6], [b"HOLD 100", b"BEGIN", b"LOCK X a a", b"LOAD a=1", b"COMMIT"])
     odd = Odd({**STILL, b"HOLD": b"ERR HELD 4"})
     with tiuvrokk.connect(port=odd.port) as client:
         wanted("who holds", raised(tiuvrokk.Held, lambda: client.hold(100)).answer, "ERR HELD 4")

@@ -387,12 +387,41 @@ def check_shared() -> None:
 
         wanted("threads", on_threads(*[add] * 4), [None] * 4)
         wanted("what all added", store.run(lambda tx: tx["count"]), b"2000")
+
+        def own() -> None:
+            for number in range(3000):
+                with store.transaction() as tx:
+                    tx[str(threading.get_ident())] = str(number)
+
+        wanted("a transaction a thread", on_threads(*[own] * 4), [None] * 4)
         kept = [store.transaction()]
         with warnings.catch_warnings():
             warnings.simplefilter("ignore")
             elsewhere(lambda: dropped(kept))
         store.transaction().abort()
         wanted("active", store.figures().active, 0)
+
+
+def check_ends() -> None:
+    """A store has no file; a transaction that has ended reads nothing more; one that can't go back within its limits is aborted."""
+    opened: Any = tiuvrokk.Store
+    wanted("a file", "has no file" in str(raised(TypeError, lambda: opened("my.db"))), True)
+    with tiuvrokk.Store() as store:
+        store["ant"] = "6"
+        for end in (tiuvrokk.Transaction.commit, tiuvrokk.Transaction.abort):
+            tx = store.transaction()
+            wanted("its keys", list(tx.keys()), [b"ant"])
+            end(tx)
+            raised(tiuvrokk.NoTransaction, lambda: tx[b"ant"])
+        tx = store.transaction()
+
+        def fill() -> None:
+            with tx.savepoint():
+                for number in range(5000):
+                    tx["bee"] = str(number)
+
+        raised(tiuvrokk.TooMany, fill)
+        wanted("what was half done", (tx.is_active, "bee" in store), (False, False))
 
 
 def memory() -> int:
@@ -626,6 +655,7 @@ def main() -> None:
         check_queue()
         check_one_read()
         check_shared()
+        check_ends()
         check_interrupts()
         client_cases.all_cases(tiuvrokk.Store)
         python_clients.all_clients(folder)

@@ -12,7 +12,7 @@ import sys
 import tempfile
 import threading
 import time
-from typing import Any, Callable, Dict, List, Optional, Sequence, Set, Tuple
+from typing import Any, Callable, Dict, List, Optional, Sequence, Set, Tuple, Union
 
 sys.dont_write_bytecode = True
 from other_protocols import other_protocols  # noqa: E402
@@ -96,7 +96,7 @@ def long_sessions() -> None:
 
 def workers_that_rest(trace: str) -> None:
     """While nothing is to merge or to clean a worker has a turn for each 1,024 answers, and for each again once a run is loaded or
-    ghosts are many."""
+    put, or ghosts are many."""
     server = stay("--sessions", "1", "--workers", "1", trace=trace)
     client = Client(server.port)
 
@@ -109,13 +109,15 @@ def workers_that_rest(trace: str) -> None:
     first = turns()
     if not 1 <= first <= 1_000:
         fail(f"{first} turns for 50,000 lines of a store in which nothing is to do")
-    records = [f"k{number:03}" for number in range(200)]
-    client.ask_all(["BEGIN", "LOAD " + " ".join(f"{key}=v" for key in records), "COMMIT"])
-    client.ask_at_once(["BEGIN", "SCAN k l 1000", "COMMIT", *["SEEN"] * 200])
-    second = turns()
-    with open(trace, "rb") as file:
-        moved = sum(int(line.split()[4]) for line in file if b" | MOVED " in line)
-    wanted("records that were merged", (moved, second - first >= 13), (200, True))
+    for verb, letter, merged in (("LOAD", "j", 200), ("PUT", "k", 400)):
+        first = turns()
+        records = [f"{letter}{number:03}" for number in range(200)]
+        client.ask_all(["BEGIN", f"{verb} " + " ".join(f"{key}=v" for key in records), "COMMIT"])
+        client.ask_at_once(["BEGIN", f"SCAN {letter} {letter}z 1000", "COMMIT", *["SEEN"] * 200])
+        second = turns()
+        with open(trace, "rb") as file:
+            moved = sum(int(line.split()[4]) for line in file if b" | MOVED " in line)
+        wanted(f"records that were merged behind {verb}", (moved, second - first >= 13), (merged, True))
     client.ask_at_once(["BEGIN", *[f"DEL {key}" for key in records], "COMMIT", *["SEEN"] * 3_000])
     # (of answers that go out together those behind the 1,024th may come before the worker goes on)
     for _ in range(50):
@@ -377,6 +379,32 @@ def waits_at_a_full_socket(path: str) -> None:
     for local in locals_[:2]:
         local.sendall(b"QUIT\n")
         wanted("the end of a session at the socket", told(local)[0], b"BYE\n")
+
+
+def seats_of_the_idle(path: str) -> None:
+    """Where all sessions are taken the one makes way for another that was idle longest, without a transaction, for more than so many
+    seconds, at the port and at the socket. By default that is a minute, and 0 is for never."""
+    for words, limited in ((("--idle-seat", "1"), True), (("--idle-seat", "0"), False), ((), False)):
+        server = stay("--sessions", "3", "--workers", "0", "--socket", path, *words)
+        places: List[Union[int, str]] = [server.port, path]
+        for place in places:
+            silent, begun, asks = Client(place), Client(place), Client(place)
+            wanted("a transaction", begun.ask("BEGIN").split()[0], "BEGUN")
+            for _ in range(3):
+                time.sleep(0.6)
+                wanted("a session that isn't idle", asks.ask("SEEN").split()[0], "SEEN")
+            newcomer = Client(place)
+            wanted("a newcomer", newcomer.ask("SEEN").split()[0], "SEEN" if limited else "ERR")
+            wanted("the others", (begun.ask("ABORT"), asks.ask("SEEN").split()[0]), ("ABORTED", "SEEN"))
+            if limited:
+                wanted("who made way", told(silent.socket)[0], b"")
+                wanted("one more, at once", Client(place).reply(), "ERR SESSIONS")
+                newcomer.quit()
+            else:
+                silent.quit()
+            for client in (begun, asks):
+                client.quit()
+        stopped(server)
 
 
 def speakers_of_others(folder: str) -> None:
@@ -907,6 +935,7 @@ def main() -> None:
         waiting_connections()
         many_at_once()
         connections_that_are_not_served(os.path.join(folder, "door"))
+        seats_of_the_idle(os.path.join(folder, "seats"))
         speakers_of_others(folder)
         killed_under_load(trace)
         terminated_under_load(trace)

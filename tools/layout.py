@@ -26,8 +26,10 @@ AMSERVE = """#!/bin/bash
 # signal would end it.
 here=$(dirname "$(readlink -f "${BASH_SOURCE[0]}")")
 trap '' XFSZ
-# (a socket of the file system is its owner's from the first moment on)
-case "$* " in *' --socket'[\ =]*) umask 077 ;; esac
+# (a burst of connections waits accepted, so as many files may be open as the system lets them)
+[ "${1-}" != listen ] || ulimit -S -n "$(ulimit -H -n)" 2>/dev/null || true
+# (a socket of the file system, and a trace, are their owner's from the first moment on)
+case "$* " in *' --socket'[\ =]* | *' --trace'[\ =]*) umask 077 ;; esac
 case "${1-} $* " in
 listen*' --stay '*) exec "$here/stay" "$here/listen/amserve" "$@" ;;
 'listen '*) exec -a amserve "$here/listen/amserve" "$@" ;;
@@ -107,7 +109,9 @@ def program_entries(programs: Dict[str, bytes]) -> List[Entry]:
     entries += [Entry("lib/tiuvrokk/stay", bytes_of("tools/stay"), 0o755)]
     entries += [Entry(f"lib/tiuvrokk/{name}", bytes_of(name), 0o755) for name in PYTHON_PROGRAMS]
     entries += [Entry(f"bin/{name}", link=f"../lib/tiuvrokk/{name}") for name in ("amserve", *PYTHON_PROGRAMS)]
-    return [*entries, *(it for name in ("tools", "replica") for it in package_entries(f"python/tiuvrokk_{name}", "lib/tiuvrokk/python"))]
+    # (the programs in Python speak by the client of the Python package, which needs no library for that)
+    packages = ("tiuvrokk", "tiuvrokk_tools", "tiuvrokk_replica")
+    return [*entries, *(it for name in packages for it in package_entries(f"python/{name}", "lib/tiuvrokk/python"))]
 
 
 def package_entries(package: str, place: str) -> List[Entry]:
@@ -147,7 +151,7 @@ def library_at(library: List[Entry], folder: str) -> List[Entry]:
 def all_entries(programs: Dict[str, bytes], library: List[Entry]) -> List[Entry]:
     """All that is installed below one prefix."""
     shared = os.path.basename(shared_library(library).path)
-    entries = program_entries(programs) + library + package_entries("python/tiuvrokk", "lib/tiuvrokk/python")
+    entries = program_entries(programs) + library
     entries.append(Entry(f"lib/tiuvrokk/python/tiuvrokk/{shared}", link=f"../../../{shared}"))
     return entries + manual_entries(range(1, 10)) + completion_entries()
 

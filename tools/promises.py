@@ -1,5 +1,7 @@
-"""The rule of docs/promises.md: it has each function that a crate gives out, and names no other function and no other clause."""
+"""The rule of docs/promises.md: it has each function that a crate gives out, and names no other function, no other clause, and
+nothing that stands neither in the crate nor below it."""
 
+import functools
 import glob
 import re
 from typing import Dict, Iterator, List, Set, Tuple
@@ -7,6 +9,8 @@ from typing import Dict, Iterator, List, Set, Tuple
 import tree
 
 PLACE = "docs/promises.md"
+# These stand in no crate.
+COMMANDS = {"amserve", "amaudit", "amreplica", "tvk_"}
 # A row of functions and the clauses or definitions by which they promise something, below the heading of its crate.
 Row = Tuple[List[str], List[str]]
 
@@ -50,6 +54,28 @@ def rows() -> Dict[str, List[Row]]:
     return found
 
 
+def names_told() -> Dict[str, Set[str]]:
+    """The names in the section of each crate: of functions, clauses, definitions and types."""
+    found = {}
+    for section in tree.text_of(PLACE).split("\n### ")[1:]:
+        crate, _, text = section.split("\n## ")[0].partition("\n")
+        quoted = re.findall(r"`([\w:]+)`", text)
+        found[crate] = {word for it in quoted for word in re.findall(r"[A-Za-z_]\w*", it)}
+    return found
+
+
+@functools.lru_cache(maxsize=None)
+def words_of(crate: str) -> Set[str]:
+    """The words of a crate's sources."""
+    found = [it for part in ("src", "specs", "proofs") for it in glob.glob(f"{tree.TOP}/crates/{crate}/{part}/**/*.*t", recursive=True)]
+    return {word for path in found for word in re.findall(r"\w+", tree.text_of(path))}
+
+
+def names_known(crate: str) -> Set[str]:
+    """The words of a crate's sources, and of those below it."""
+    return set().union(*map(words_of, [*tree.below(crate), crate]))
+
+
 def faults_of_row(crate: str, row: Row, functions: Dict[str, str]) -> Iterator[str]:
     """What a row names and the crate doesn't have."""
     told, clauses = row
@@ -64,7 +90,7 @@ def faults_of_row(crate: str, row: Row, functions: Dict[str, str]) -> Iterator[s
 
 def faults() -> Iterator[str]:
     """Each crate has a section, each function that it gives out a row, and each clause a contract."""
-    found = rows()
+    found, named = rows(), names_told()
     for crate in tree.crates():
         if crate not in found:
             yield f"{PLACE}: {crate} has no section"
@@ -72,5 +98,6 @@ def faults() -> Iterator[str]:
         functions = functions_of(crate)
         for row in found[crate]:
             yield from faults_of_row(crate, row, functions)
+        yield from (f"{PLACE}: {name} stands neither in {crate} nor below it" for name in sorted(named[crate] - names_known(crate) - COMMANDS))
         told = {name for names, _ in found[crate] for name in names}
         yield from (f"{PLACE}: {name} of {crate} has no row" for name in functions if name not in told)

@@ -19,7 +19,7 @@ from ._mapping import MAX_PAGE, MAX_ROWS, MAX_TRIES, RUN, Mapped, Runner, first_
 from ._records import GREATEST, Record, Records, Text, double_line, first_double, line_runs, range_of, runs_of
 from ._wire import GREATEST_KEY, KEY, LAPSED, LEAST_KEY, RECORDS, VALUE, Path, Wire, below_key, ends_of, key_of, number_of, refusal
 from ._wire import Active, actives_of, rows_of, value_of
-from .errors import MAX_LIMIT, Absent, Closed, Conflict, Error, Exists, NoTransaction, OutOfMemory, Refused, Twice
+from .errors import MAX_LIMIT, Absent, Bad, Closed, Conflict, Error, Exists, NoTransaction, OutOfMemory, Refused, Twice
 from .errors import Unknown, Unreachable, WrongThread, bad_limit, bad_range, bad_text
 
 Default = TypeVar("Default")
@@ -31,6 +31,7 @@ _LOCKED_RUNS = 255
 _SURE = 500
 _LONGEST_LINE = 4096
 _HOLD = 2000
+_FIRST_HOLD = 100
 _OK = (b"OK",)
 
 
@@ -99,9 +100,12 @@ class Client(Runner["RemoteTransaction"]):
 
     def transaction(self) -> RemoteTransaction:
         """Begins a transaction. As the head of a `with` block it commits at the end of the block, and aborts where an
-        exception leaves the block. One that is dropped before its end is aborted before the next line of the client, and one
-        that stands is aborted before the next one begins."""
+        exception leaves the block. One that is dropped before its end is aborted before the next line of the client. A client has
+        one at a time: a second one raises RuntimeError, and the first one goes on."""
         self._stay()
+        begun = self._begun() if self._begun is not None else None
+        if begun is not None and begun.is_active and not begun._is_leaving:
+            raise RuntimeError("the client has a transaction, and one at a time: end that first, or connect another client")
         if not self._wire.is_open:
             self._wire = self._connected()
         try:
@@ -138,7 +142,7 @@ class Client(Runner["RemoteTransaction"]):
     def load(self, records: Records, run: int = RUN, hold: int = _HOLD) -> int:
         """Adds the records of a mapping, or pairs, all or none, in a transaction of its own, as its `load` does, and answers how
         many they are. It holds a server for so many milliseconds first, where that knows it; 0 is for none."""
-        return self._loaded(lambda tx: tx.load(records, run), hold)
+        return self._loaded(runs_of(records, _run(run)), hold)
 
     def load_file(self, path: Union[str, os.PathLike[str]], run: int = RUN, hold: int = _HOLD) -> int:
         """Loads the records of a file, all or none, in a transaction of its own, and answers how many they are. Each line is a
@@ -146,23 +150,40 @@ class Client(Runner["RemoteTransaction"]):
         with open(path, "rb") as file:
             text = file.read()
         try:
-            return self._loaded(lambda tx: tx._load_runs(line_runs(io.BytesIO(text), _run(run))), hold)
+            return self._loaded(line_runs(io.BytesIO(text), _run(run)), hold)
         except (Exists, Twice) as error:
             raise double_line(io.BytesIO(text), error.key) or error from None
 
-    def _loaded(self, load: Callable[[RemoteTransaction], int], hold: int) -> int:
-        if hold and not self.is_replica:
-            self._again(lambda: self._held(hold), MAX_TRIES)
-        with self.transaction() as tx:
-            return load(tx)
+    def _loaded(self, runs: Iterable[list[Record]], hold: int) -> int:
+        """Loads runs in a transaction of its own. A server is held until one lock covers all of them: so no lock is in the way,
+        however long the load takes. Short holds come first, since others wait as long."""
+        if not hold or self.is_replica:
+            with self.transaction() as tx:
+                return tx._load_runs(runs)
+        made, lengths = list(runs), itertools.chain((_FIRST_HOLD << it for it in range(16)), itertools.repeat(hold))
+        ends = (min(run[0][0] for run in made), max(run[-1][0] for run in made)) if made else None
 
-    def _held(self, hold: int) -> None:
-        try:
-            self.hold(hold)
-        except Refused as refused:
-            # (an older server knows no such line)
-            if refused.answer != "ERR SYNTAX":
-                raise
+        def once() -> int:
+            self._hold_for(min(hold, next(lengths)))
+            with self.transaction() as tx:
+                if ends:
+                    tx.lock(*ends, exclusive=True)
+                return tx._load_runs(made)
+
+        return self._again(once, MAX_TRIES)
+
+    def _hold_for(self, milliseconds: int) -> None:
+        """Holds a server for so long, or for as long as it lets one hold, unless it knows no such line."""
+        while milliseconds:
+            try:
+                self.hold(milliseconds)
+                return
+            except Bad:
+                milliseconds //= 2
+            except Refused as refused:
+                if refused.answer != "ERR SYNTAX":
+                    raise
+                return
 
     def merge(self, limit: int = MAX_LIMIT) -> Optional[int]:
         """One merge step: works off at most `limit` entries of the oldest range that was read. Answers how many they were, 0 where
@@ -242,6 +263,7 @@ class RemoteTransaction(Mapped):
 
     _is_over = True  # (until it is begun)
     _has_committed = False
+    _is_leaving = False  # (its end was begun, and an interrupt may have kept it from that)
     _is_taken_back = False  # (by the next one)
 
     def __init__(self, client: Client) -> None:
@@ -278,6 +300,7 @@ class RemoteTransaction(Mapped):
     ) -> None:
         if self._is_over:
             return
+        self._is_leaving = True
         if kind is None:
             try:
                 self.commit()
@@ -296,8 +319,9 @@ class RemoteTransaction(Mapped):
                 pass
 
     def __del__(self, warn: Callable[..., None] = warnings.warn) -> None:
-        # (its client sees that it is gone)
+        # (its client sees that it is gone, also where whoever hears the warning keeps it)
         if self.is_active:
+            self._is_leaving = True
             warn(f"{self!r} was dropped, and is aborted", ResourceWarning, source=self)
 
     def __repr__(self) -> str:
@@ -331,7 +355,7 @@ class RemoteTransaction(Mapped):
         self._end()
 
     def _end(self) -> None:
-        self._is_over = True
+        self._is_over, self._read = True, None
         if self._client._wire is self._wire:
             self._client._begun = None
 

@@ -72,6 +72,43 @@ class Runner(Unique, Generic[Tx]):
 
         return self._again(once, tries)
 
+    def get(self, key: Text, default: Any = None) -> Any:
+        """The value under the key, or `default` where there is none, by a transaction of its own, as each of the following."""
+        return self.run(lambda tx: tx.get(key, default))
+
+    @overload
+    def __getitem__(self, key: Text) -> bytes: ...
+
+    @overload
+    def __getitem__(self, key: slice) -> list[Record]: ...
+
+    def __getitem__(self, key: Union[Text, slice]) -> Union[bytes, list[Record]]:
+        """The value under the key, which has one, or else `Absent` is raised. `store[lo:hi]` is a list of the records from `lo` on
+        and below `hi`; either may be missing."""
+        return self.run(lambda tx: tx[key])
+
+    def __setitem__(self, key: Text, value: Text) -> None:
+        """Sets the value under the key, whether it has one or not."""
+        self.run(lambda tx: tx.__setitem__(key, value))
+
+    def __delitem__(self, key: Union[Text, slice]) -> None:
+        """Takes the record away. Raises `Absent` where there is none. `del store[lo:hi]` takes those from `lo` on and below `hi`."""
+        self.run(lambda tx: tx.__delitem__(key))
+
+    def __contains__(self, key: Text) -> bool:
+        return self.run(lambda tx: key in tx)
+
+    def __iter__(self) -> Iterator[bytes]:
+        """All keys, as they are when the first one is asked for."""
+        return iter(self.run(lambda tx: list(tx)))
+
+    def __len__(self) -> int:
+        return self.run(len)
+
+    def __bool__(self) -> bool:
+        # (not by `__len__`, which reads all)
+        return True
+
     def _again(self, call: Callable[[], Result], tries: int) -> Result:
         """What a call answers, at one of so many tries."""
         if tries < 1:
@@ -200,6 +237,10 @@ class Mapped(Unique):
         """Locks the range from `lo` to `hi`, or one key: to read it, or to write it where the lock is exclusive."""
         raise NotImplementedError
 
+    def abort(self) -> None:
+        """Takes back what was written, and ends the transaction."""
+        raise NotImplementedError
+
     def mark(self) -> None:
         """Sets a savepoint."""
         raise NotImplementedError
@@ -262,15 +303,19 @@ class Mapped(Unique):
     @contextmanager
     def savepoint(self) -> Iterator[None]:
         """A block whose writes are taken back where an exception leaves it, which goes on to whoever holds it. What the block
-        locked stays locked."""
+        locked stays locked. A transaction that has had all operations that it may is aborted then."""
         depth = self._marks
         self.mark()
         try:
             yield
         except BaseException:
             # (blocks within this one that ended well have left theirs)
-            while self.is_active and self._marks > depth:
-                self.back()
+            try:
+                while self.is_active and self._marks > depth:
+                    self.back()
+            except TooMany:
+                # (what can't be taken back must not be committed)
+                self.abort()
             raise
 
     def scan(

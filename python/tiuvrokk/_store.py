@@ -12,7 +12,7 @@ from collections.abc import Callable, Iterable, Iterator
 from operator import index
 from threading import current_thread, get_ident, main_thread
 from types import TracebackType
-from typing import Any, NamedTuple, Optional, TypeVar, Union, overload
+from typing import Any, NamedTuple, NoReturn, Optional, TypeVar, Union, overload
 
 from ._library import Call, Counts, Handle, Number, calls, holding_calls
 from ._mapping import MAX_PAGE, MAX_ROWS, RUN, Mapped, Runner, first_page, limited, most_of
@@ -66,7 +66,9 @@ class Store(Runner["Transaction"]):
     on any other each call raises `WrongThread`. `check_same_thread=False` lets any thread use it, one at a time: who asks for
     that sees to it that no two threads are in one transaction at once, and loads don't let other threads run."""
 
-    def __init__(self, check_same_thread: bool = True) -> None:
+    def __init__(self, *file: NoReturn, check_same_thread: bool = True) -> None:
+        if file:
+            raise TypeError("a Store lives in memory and has no file: records come in by load_file, or by load in a transaction")
         if _open and current_thread() is main_thread():
             _close_dropped()
         self._calls = calls if check_same_thread else holding_calls
@@ -89,6 +91,9 @@ class Store(Runner["Transaction"]):
         if self._handle.at:
             self._stay()
             self._end(self._at)
+            for reference, _ in list(self._begun.values()):
+                if (tx := reference()) is not None:
+                    tx._read = None
         _open.pop(id(self._handle), None)
 
     def __enter__(self) -> Store:
@@ -205,10 +210,11 @@ class Store(Runner["Transaction"]):
         return told[0]
 
     def _abort_dropped(self) -> None:
-        """Aborts the transactions that nobody has any more, and those that an interrupt kept from their end."""
+        """Aborts the transactions that nobody has any more, and those that an interrupt kept from their end, which this thread had
+        begun: another one may be at it."""
         for at, (reference, number) in list(self._begun.items()):
             tx = reference()
-            if tx is None or tx._is_leaving:
+            if tx is None or tx._left_by == get_ident():
                 if number.value:
                     self._calls.abort(self._at, number)
                 if tx is not None:
@@ -223,7 +229,7 @@ class Transaction(Mapped):
     nothing, and the transaction goes on. Keys and values are bytes, bytearray, memoryview or str, which is taken for its
     UTF-8; anything else is a TypeError."""
 
-    _is_leaving = False  # (its end was begun)
+    _left_by = 0  # (the thread that began its end)
     _is_over = True  # (until it can be begun)
 
     def __init__(self, store: Store) -> None:
@@ -260,7 +266,7 @@ class Transaction(Mapped):
     ) -> None:
         if self._is_over:
             return
-        self._is_leaving = True
+        self._left_by = get_ident()
         if kind is None:
             # (a store that was closed meanwhile says so here)
             self.commit()
@@ -275,7 +281,7 @@ class Transaction(Mapped):
         if self._thread == here():
             self._calls.abort(self._at, self._tx)
             self._over()
-        self._is_leaving = True
+        self._left_by = self._thread
         warn(told, ResourceWarning, source=self)
 
     def __repr__(self) -> str:
@@ -444,7 +450,7 @@ class Transaction(Mapped):
             self._store._stay()
 
     def _over(self) -> None:
-        self._is_over = True
+        self._is_over, self._read = True, None
         self._store._begun.pop(id(self._tx), None)
 
     def _plain(self, call: Call) -> None:

@@ -9,6 +9,7 @@ from collections.abc import Sequence
 from typing import NamedTuple, Optional, Union
 
 from ._records import GREATEST, bytes_of
+from ._stream import Stream
 from .errors import Absent, Bad, Busy, Conflict, Error, Exists, Held, Lapsed, NoMark, NoTransaction, OutOfMemory
 from .errors import Refused, Status, TooMany, Twice, Unknown, Unreachable, bad_range, bad_text
 
@@ -110,43 +111,31 @@ class Wire:
 
     def __init__(self, port: Optional[int], path: Optional[Path], host: str, timeout: Optional[float]) -> None:
         if path is None:
-            self._socket = socket.create_connection((host, port or 0), timeout)
-            self._socket.setsockopt(socket.IPPROTO_TCP, socket.TCP_NODELAY, 1)
+            connection = socket.create_connection((host, port or 0), timeout)
+            connection.setsockopt(socket.IPPROTO_TCP, socket.TCP_NODELAY, 1)
         else:
-            self._socket = socket.socket(socket.AF_UNIX, socket.SOCK_STREAM)
-            self._socket.settimeout(timeout)
+            connection = socket.socket(socket.AF_UNIX, socket.SOCK_STREAM)
+            connection.settimeout(timeout)
             try:
-                self._socket.connect(os.fspath(path))
+                connection.connect(os.fspath(path))
             except BaseException:
-                self._socket.close()
+                connection.close()
                 raise
-        self._answers = self._socket.makefile("rb")
+        self._stream = Stream(connection, timeout)
         self.is_open = True
 
     def close(self) -> None:
         self.is_open = False
-        self._answers.close()
-        self._socket.close()
+        self._stream.close()
 
     def ask(self, lines: Sequence[bytes]) -> list[bytes]:
-        """The answers to lines that are sent together, a thousand at most at a time: those to lines that write are short, so
-        neither side waits for the other to read."""
-        answers: list[bytes] = []
+        """The answers to lines, which are sent together."""
         try:
-            for at in range(0, len(lines), 1000):
-                part = lines[at : at + 1000]
-                self._socket.sendall(b"".join([line + b"\n" for line in part]))
-                answers += [self._heard() for _ in part]
+            self._stream.send(b"".join([line + b"\n" for line in lines]))
+            return [self._stream.line() for _ in lines]
         except BaseException:
             self.close()
             raise
-        return answers
-
-    def _heard(self) -> bytes:
-        answer = self._answers.readline()
-        if not answer.endswith(b"\n"):
-            raise ConnectionResetError("the server went away")
-        return answer[:-1]
 
 
 def rest_of(answer: bytes, word: bytes) -> Optional[bytes]:

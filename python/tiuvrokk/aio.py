@@ -26,7 +26,7 @@ from ._client import RemoteTransaction
 from ._mapping import MAX_TRIES, first_page, may_come_right, most_of, pause_after
 from ._records import GREATEST, Record, Text
 from ._wire import Path
-from .errors import Busy, Closed, Conflict, Held, TooMany
+from .errors import Busy, Closed, Conflict, Held, Lapsed, TooMany
 
 if TYPE_CHECKING:
     from typing_extensions import Concatenate, ParamSpec
@@ -142,7 +142,7 @@ class Client:
             try:
                 async with self.transaction() as tx:
                     return await function(tx)
-            except (Busy, Conflict, Held, TooMany) as error:
+            except (Busy, Conflict, Held, Lapsed, TooMany) as error:
                 if tried >= tries or not may_come_right(error):
                     raise
             await asyncio.sleep(pause_after(tried))

@@ -17,6 +17,8 @@ PATIENCE = 2.0
 PAUSE = 0.05
 # Seconds of silence of all members, behind which standard error has a line.
 SILENCE = 5.0
+# So often in turn a member may deny what a user asks before that is taken for its word.
+MOST_DENIALS = 20
 
 
 class Unreachable(Exception):
@@ -173,6 +175,7 @@ class Etcd:
         self.at = 0
         self.idle: List[Link] = []
         self.token = ""
+        self.denials = 0
         self.silent_since: Optional[float] = None
 
     @property
@@ -228,7 +231,7 @@ class Etcd:
             self.pass_over(host)
             raise Unreachable(f"{host}: {str(fault) or type(fault).__name__}") from fault
         text = refusal_of(body)
-        if status == 401 or "auth store is old" in text:
+        if status == 401 or "auth store is old" in text or self.is_forgotten(status):
             self.token = ""
             raise Unreachable(f"{host}: {text}")
         if status in (400, 403, 404):
@@ -236,12 +239,20 @@ class Etcd:
         self.pass_over(host)
         raise Unreachable(f"{host}: {status} {text}")
 
+    def is_forgotten(self, status: int) -> bool:
+        """Whether what was denied may be the user's once it has a token anew: a member that has just begun takes a token that it
+        forgot for nobody's."""
+        if status != 403 or not self.token:
+            return False
+        self.denials += 1
+        return self.denials <= MOST_DENIALS
+
     async def ask(self, path: str, message: Message, is_settled: Callable[[], bool] = lambda: False) -> Optional[Message]:
         """The answer, however long it takes; None once it is settled otherwise. For requests that may be repeated."""
         while not is_settled():
             try:
                 answer = await self.try_once(path, message)
-                self.silent_since = None
+                self.silent_since, self.denials = None, 0
                 return answer
             except Unreachable as fault:
                 self.note(fault)

@@ -13,6 +13,8 @@ from .transaction import LIMIT, UNREACHABLE, Transaction
 
 # Bytes that are read at once.
 CHUNK = 1 << 18
+# The first byte of a connection that speaks no other protocol.
+TEXT = b"\t\n\f\r" + bytes(range(32, 127))
 # Bytes of whole transactions that were sent ahead, for one entry.
 AHEAD = 500_000
 # Whole transactions that read a few records, which may go to the store as they stand.
@@ -132,7 +134,7 @@ class Session:
             data = await reader.read(CHUNK)
             self.rests = False
             self.heard = time.monotonic()
-            if not self.has_begun and not data[:1].isupper():
+            if not self.has_begun and not (data and data[0] in TEXT):
                 return
             self.has_begun = True
             while self.flying:

@@ -1,7 +1,9 @@
 """What readline has of a shell: completion of verbs, keys and files, and a file of what was typed."""
 
 import glob
+import os
 import re
+import stat
 from typing import List, Set
 
 try:
@@ -41,6 +43,9 @@ class Completion:
         readline.parse_and_bind("tab: complete")
         readline.set_history_length(MOST_LINES)
         try:
+            # (what was typed is its user's alone)
+            if stat.S_ISREG(os.lstat(history).st_mode):
+                os.chmod(history, 0o600)
             readline.read_history_file(history)
             if readline.get_current_history_length() >= MOST_LINES:
                 # (those that lie further back are left out)
@@ -52,8 +57,7 @@ class Completion:
         """Keeps the line that was typed last, or says why it can't."""
         try:
             if readline is not None and self.history:
-                with open(self.history, "ab"):
-                    pass
+                os.close(os.open(self.history, os.O_WRONLY | os.O_APPEND | os.O_CREAT, 0o600))
                 readline.append_history_file(1, self.history)
         except OSError as error:
             told, self.history = f"{self.history}: {error.strerror}", ""

@@ -34,7 +34,7 @@ EPILOG = """status:
 An interrupt ends it by SIGINT: what was written isn't all."""
 NAME = "amdump"
 HOLD_MILLIS = 2000
-TRIES = 5
+TRIES = 8
 ROWS = 1000
 MOST_SCANS = 4000
 LEAST = b"!"
@@ -77,14 +77,6 @@ def dump_rows(session: Session, write: Callable[[bytes], object], progress: Prog
     return records
 
 
-def dump(session: Session, write: Callable[[bytes], object], progress: Progress) -> int:
-    """Writes all records by a transaction of its own, and counts them."""
-    wanted_answer(session, b"BEGIN", b"BEGUN")
-    records = dump_rows(session, write, progress)
-    wanted_answer(session, b"COMMIT", b"COMMITTED")
-    return records
-
-
 def writer(escapes: bool) -> Callable[[bytes], object]:
     """What writes lines to standard output."""
     return (lambda text: write_all(unescaped_lines(text))) if escapes else write_all
@@ -92,11 +84,13 @@ def writer(escapes: bool) -> Callable[[bytes], object]:
 
 class Pages:
     """Scans of a moment's records, by one session after another: a transaction has 4,096 operations, and before it ends the next
-    one has the same lock, so nobody writes between them. A session that is done goes, lest it be found idle."""
+    one has the same lock, so nobody writes between them. A session that is done goes, lest it be found idle, but for one that is
+    given: that one is the first, and stays."""
 
-    def __init__(self, make_session: Callable[[], Session]) -> None:
+    def __init__(self, make_session: Callable[[], Session], given: Optional[Session] = None) -> None:
         self.make_session = make_session
-        self.session = make_session()
+        self.given = given
+        self.session = given or make_session()
 
     def begin(self) -> None:
         """A transaction that nobody writes beside."""
@@ -109,11 +103,16 @@ class Pages:
             raise Refused(answer)
 
     def turn(self) -> None:
-        """Another session goes on."""
+        """Another session goes on; where there is no other one nobody writes, and the same one does."""
         before, self.session = self.session, self.make_session()
+        if self.session is before:
+            self.end()
+            self.begin()
+            return
         self.begin()
         wanted_answer(before, b"COMMIT", b"COMMITTED")
-        before.leave()
+        if before is not self.given:
+            before.leave()
 
     def rows(self) -> Iterator[List[bytes]]:
         """The rows of each scan. Each goes on from the last row's key, which comes once more."""
@@ -134,11 +133,12 @@ class Pages:
         wanted_answer(self.session, b"COMMIT", b"COMMITTED")
 
     def leave(self) -> None:
-        self.session.leave()
+        if self.session is not self.given:
+            self.session.leave()
 
 
-def dump_pages(pages: Pages, write: Callable[[bytes], object], progress: Progress) -> None:
-    """Writes all records that are there under the lock."""
+def dump_pages(pages: Pages, write: Callable[[bytes], object], progress: Progress) -> int:
+    """Writes all records that are there under the lock, and counts them."""
     records = size = 0
     for rows in pages.rows():
         text = text_of(rows)
@@ -146,6 +146,7 @@ def dump_pages(pages: Pages, write: Callable[[bytes], object], progress: Progres
         records, size = records + len(rows), size + len(text)
         progress.show(records, size)
     pages.end()
+    return records
 
 
 class Output:
@@ -160,10 +161,24 @@ class Output:
         self.begun = self.size_of_file()
 
     def opened(self) -> int:
+        """A file of its own, whatever lay there, which may be read by those who may read the file that it replaces."""
         try:
-            return os.open(self.part, os.O_WRONLY | os.O_CREAT | os.O_TRUNC, 0o666)
+            with contextlib.suppress(FileNotFoundError):
+                os.unlink(self.part)
+            replaced = self.mode_of_file()
+            descriptor = os.open(self.part, os.O_WRONLY | os.O_CREAT | os.O_EXCL, 0o666 if replaced is None else 0o600)
+            if replaced is not None:
+                os.fchmod(descriptor, replaced)
+            return descriptor
         except OSError as error:
             raise Stop(6, f"{self.part}: {error.strerror}") from None
+
+    def mode_of_file(self) -> Optional[int]:
+        """Who may read and write the file that is there."""
+        with contextlib.suppress(OSError):
+            status = os.stat(self.file)
+            return stat.S_IMODE(status.st_mode) if stat.S_ISREG(status.st_mode) else None
+        return None
 
     def size_of_file(self) -> Optional[int]:
         """What stands in a plain file before the records."""
@@ -209,14 +224,15 @@ def begin_held(pages: Pages, millis: int) -> None:
     pages.begin()
 
 
-def dump_all(pages: Pages, output: Output, progress: Progress, millis: int, tries: Tries) -> None:
-    """Writes all records, or says why not."""
+def dump_all(pages: Pages, output: Output, progress: Progress, millis: int, tries: Tries) -> int:
+    """Writes all records, and counts them, or says why not."""
     try:
-        tries.until_done(lambda: begin_held(pages, millis), pages.session.abort)
-        dump_pages(pages, output.write, progress)
+        tries.until_done(lambda: begin_held(pages, tries.part_of(millis)), pages.session.abort)
+        records = dump_pages(pages, output.write, progress)
     except Refused as refused:
         raise Stop(1, f"{refused}{tries.told()}: not all records were read") from None
     output.keep()
+    return records
 
 
 def words() -> argparse.Namespace:

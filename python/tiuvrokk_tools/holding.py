@@ -9,6 +9,8 @@ from .program import Parser, numbers
 from .sessions import Refused, Session
 
 MAX_HOLD = 60_000
+# A first try holds for so many milliseconds, and each further one for twice as many: others wait as long.
+FIRST_HOLD = 100
 PAUSE_SECONDS = 0.05
 Result = TypeVar("Result")
 
@@ -48,6 +50,10 @@ class Tries:
                     raise
             undo()
             time.sleep(PAUSE_SECONDS * random.uniform(0.5, 1.5))
+
+    def part_of(self, millis: int) -> int:
+        """How long a try holds: the last one for as long as it may."""
+        return millis if self.done >= self.most else min(millis, FIRST_HOLD << self.done - 1)
 
     def told(self) -> str:
         """Which try it was, where it wasn't the first."""

@@ -42,7 +42,7 @@ EPILOG = """status:
 An interrupt ends it by SIGINT: nothing was loaded, unless it says otherwise."""
 NAME = "amload"
 HOLD_MILLIS = 2000
-TRIES = 5
+TRIES = 8
 
 
 def write(runs: Pieces, progress: Progress) -> None:
@@ -109,10 +109,15 @@ def held_load(session: Session, runs: Pieces, progress: Progress, millis: int) -
     commit(session)
 
 
+def load_held(session: Session, runs: Pieces, progress: Progress, millis: int, tries: Tries) -> None:
+    """The same, anew where it was refused for another's sake."""
+    tries.until_done(lambda: held_load(session, runs, progress, tries.part_of(millis)), session.abort)
+
+
 def bring(session: Session, runs: Pieces, progress: Progress, millis: int, tries: Tries) -> None:
     """Loads all, or nothing."""
     try:
-        tries.until_done(lambda: held_load(session, runs, progress, millis), session.abort)
+        load_held(session, runs, progress, millis, tries)
     except Refused as refused:
         session.leave()
         raise Stop(1, f"{refused}{tries.told()}: nothing was loaded") from None

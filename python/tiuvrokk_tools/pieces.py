@@ -184,6 +184,14 @@ def opened(file: str) -> BinaryIO:
         raise Stop(4, f"{file}: {error.strerror}") from None
 
 
+def nameless() -> IO[bytes]:
+    """A file without a name."""
+    try:
+        return tempfile.TemporaryFile()
+    except OSError as error:
+        raise Stop(4, f"no file for what waits: {error.strerror}") from None
+
+
 class Pieces:
     """All records of a file, as runs that are loaded in turn."""
 
@@ -193,7 +201,7 @@ class Pieces:
         self.faults: "Counter[str]" = Counter()
         self.bad: Optional[Tuple[int, bytes, str]] = None
         self.dropped: Dict[int, List[bytes]] = {}
-        self.spool = tempfile.TemporaryFile()
+        self.spool = nameless()
         self.read(opened(file), show)
         self.raise_faults()
         suspects = self.suspects()
@@ -208,7 +216,7 @@ class Pieces:
     def read(self, source: BinaryIO, show: Callable[[int, int, int], None]) -> None:
         """Reads all, and shows how far it is: records, bytes, and how many bytes there are, where that is known."""
         lines_at_once = self.reading.run * max(1, MAX_RUN // self.reading.run)
-        self.copy: Optional[IO[bytes]] = None if source.seekable() else tempfile.TemporaryFile()
+        self.copy: Optional[IO[bytes]] = None if source.seekable() else nameless()
         whole = os.fstat(source.fileno()).st_size if source.seekable() else 0
         helpers: List[Helper] = []
         first = size = 0

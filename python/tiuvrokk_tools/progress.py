@@ -22,7 +22,9 @@ class Progress:
         """So much is done."""
         passed = max(time.monotonic() - self.begun, 0.001)
         done = f"{size / 1e6:.1f} of {self.whole / 1e6:.1f} MB" if self.whole else f"{size / 1e6:.1f} MB"
-        text = f"{self.name}: {done}, {records / passed:.0f} records/s"
+        text = f"{self.name}: {done}"
+        if records:
+            text += f", {records / passed:.0f} records/s"
         if self.records and records:
             text += f", {passed * (self.records - records) / records:.0f} s left"
         return text

@@ -4,11 +4,11 @@ import argparse
 import contextlib
 import socket
 import subprocess
-from typing import BinaryIO, Callable, Optional, Sequence
+from typing import IO, Optional, Protocol, Sequence
+
+from tiuvrokk._stream import Stream
 
 from .program import Stop, visible
-
-PIECE = 1 << 16
 
 
 def shown(answer: bytes) -> str:
@@ -21,6 +21,15 @@ def fault_of(place: str, error: OSError) -> Stop:
     return Stop(5, f"{place}: {'no answer in time' if isinstance(error, socket.timeout) else error.strerror or error}")
 
 
+# What whoever isn't served is told, before the connection is closed.
+UNSERVED = b"ERR SESSIONS"
+
+
+def unserved_by(place: str) -> Stop:
+    """It has no seat for this session."""
+    return Stop(5, f"{place}: answered {shown(UNSERVED)}: it serves no further session now")
+
+
 class Refused(Exception):
     """A line was answered otherwise than it has to be for what is going on."""
 
@@ -29,35 +38,51 @@ class Refused(Exception):
         self.answer = answer
 
 
+class Connected(Protocol):
+    """What sends bytes, and gives the lines that come."""
+
+    def send(self, data: bytes) -> None: ...
+
+    def line(self) -> bytes: ...
+
+
 class Session:
     """Lines that are sent, and their answers."""
 
-    def __init__(self, place: str, send: Callable[[bytes], object], answers: BinaryIO) -> None:
+    def __init__(self, place: str, stream: Connected) -> None:
         self.place = place
-        self.send_piece = send
-        self.answers = answers
+        self.stream = stream
         self.process: Optional[subprocess.Popen[bytes]] = None
         self.unheard = 0
 
     def send(self, lines: bytes) -> None:
-        """Sends lines. A piece at a time, since the limit of a wait is one for each."""
+        """Sends lines."""
         self.unheard += lines.count(b"\n")
         try:
-            for at in range(0, len(lines), PIECE):
-                self.send_piece(lines[at : at + PIECE])
+            self.stream.send(lines)
+        except (BrokenPipeError, ConnectionResetError) as error:
+            raise self.unserved() or fault_of(self.place, error) from None
         except OSError as error:
             raise fault_of(self.place, error) from None
 
     def hear(self) -> bytes:
         """The next answer, with its LF."""
         try:
-            answer = self.answers.readline()
+            answer = self.stream.line()
+        except ConnectionResetError:
+            raise Stop(5, f"{self.place}: it went away") from None
         except OSError as error:
             raise fault_of(self.place, error) from None
-        if not answer.endswith(b"\n"):
-            raise Stop(5, f"{self.place}: it went away")
         self.unheard -= 1
-        return answer
+        return answer + b"\n"
+
+    def unserved(self) -> Optional[Stop]:
+        """Why the other side is gone, where that is what it said last."""
+        with contextlib.suppress(OSError):
+            while True:
+                if self.stream.line() == UNSERVED:
+                    return unserved_by(self.place)
+        return None
 
     def ask(self, line: bytes) -> bytes:
         """The answer to a line, without its LF."""
@@ -105,7 +130,25 @@ def with_server(asked: argparse.Namespace) -> Session:
     except OSError as error:
         connection.close()
         raise fault_of(place, error) from None
-    return Session(place, connection.sendall, connection.makefile("rb"))
+    return Session(place, Stream(connection, asked.wait))
+
+
+class Pipes:
+    """The standard input and output of a program."""
+
+    def __init__(self, put: IO[bytes], get: IO[bytes]) -> None:
+        self.put, self.get = put, open(get.fileno(), "rb", closefd=False)
+
+    def send(self, data: bytes) -> None:
+        rest = memoryview(data)
+        while rest:
+            rest = rest[self.put.write(rest) :]
+
+    def line(self) -> bytes:
+        answer = self.get.readline()
+        if not answer.endswith(b"\n"):
+            raise ConnectionResetError
+        return answer[:-1]
 
 
 def with_program(command: Sequence[str]) -> Session:
@@ -121,13 +164,6 @@ def with_program(command: Sequence[str]) -> Session:
     except subprocess.CalledProcessError as error:
         raise Stop(5, f"{place}: it ended with status {error.returncode}") from None
     assert process.stdin is not None and process.stdout is not None
-    write, answers = process.stdin, open(process.stdout.fileno(), "rb", closefd=False)
-
-    def send(piece: bytes) -> None:
-        rest = memoryview(piece)
-        while rest:
-            rest = rest[write.write(rest) :]
-
-    session = Session(place, send, answers)
+    session = Session(place, Pipes(process.stdin, process.stdout))
     session.process = process
     return session

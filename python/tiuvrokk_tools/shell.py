@@ -28,13 +28,14 @@ from typing import Callable, Dict, Iterator, List, Optional
 
 from . import TOP
 from .completion import Completion
-from .dump import dump, dump_rows, scans, writer
-from .escapes import unescaped, unescaped_lines
-from .load import load, load_runs
+from .dump import GREATEST, HOLD_MILLIS, LEAST, Output, Pages, dump_all, dump_rows, scans
+from .escapes import unescaped
+from .holding import Tries, hold
+from .load import load_held, load_runs
 from .pieces import Pieces, Reading
 from .program import CLOSED, Parser, Stop, add_server, read_file, run_program, say, visible, write_all
 from .progress import Progress
-from .sessions import Refused, Session, names_server, shown, with_program, with_server
+from .sessions import UNSERVED, Refused, Session, names_server, shown, unserved_by, with_program, with_server
 from .typed import spelled, words_of
 from .verbs import ALONE, VERBS, fault_of_line, help_of, help_of_all
 
@@ -49,6 +50,8 @@ NAME = "amcli"
 LAPSED = b"ERR IDLE"
 LAPSE = "no line came for too long: the transaction was aborted"
 MOST_FILES = 16
+# So often a command is tried that another holds up: whoever types waits a few seconds.
+TRIES = 5
 
 
 class ShellProgress(Progress):
@@ -164,16 +167,25 @@ class Shell:
         verb = line.partition(b" ")[0].decode("ascii", "replace")
         if verb in ALONE and not self.transaction:
             self.session.send(b"BEGIN\n%b\nCOMMIT\n" % line)
-            begun, answer, committed = (self.session.hear() for _ in range(3))
+            begun = self.heard()
+            answer, committed = self.session.hear(), self.session.hear()
             if not begun.startswith(b"BEGUN "):
                 answer = begun
             elif not committed.startswith(b"COMMITTED "):
                 answer = committed
         else:
-            answer = self.session.ask(line) + b"\n"
+            self.session.send(line + b"\n")
+            answer = self.heard()
             self.note(answer)
         self.completion.see(line, answer)
         return answer[:-1]
+
+    def heard(self) -> bytes:
+        """The answer to a line that may be the session's first."""
+        answer = self.session.hear()
+        if answer == UNSERVED + b"\n":
+            raise unserved_by(self.session.place)
+        return answer
 
     def note(self, answer: bytes) -> None:
         """What the answer says of the session."""
@@ -204,7 +216,7 @@ class Shell:
             if self.transaction:
                 load_runs(self.session, runs.lock(), runs, progress)
             elif records:
-                load(self.session, runs, progress)
+                load_held(self.session, runs, progress, HOLD_MILLIS, Tries(TRIES))
         except (Refused, Stop) as refused:
             if isinstance(refused, Stop) and refused.status >= 5:
                 raise
@@ -231,27 +243,41 @@ class Shell:
             progress.end()
 
     def dump(self, file: str) -> None:
-        """Writes all records to a file, by a transaction of its own, where none is active."""
+        """Writes all records to a file, which appears once it is whole, by a transaction of its own, where none is active."""
         name, progress = self.named(file), ShellProgress(self)
-        make = dump_rows if self.transaction else dump
         try:
-            if name == "-":
-                make(self.session, writer(self.escapes), progress)
-                return
-            with open(name, "wb") as opened:
-                number = make(self.session, lambda text: opened.write(unescaped_lines(text) if self.escapes else text), progress)
-        except OSError as error:
-            self.abort_own()
-            raise Stop(4, f"{name}: {error.strerror}") from None
-        except (Refused, Stop) as refused:
-            if isinstance(refused, Stop) and refused.status >= 5:
-                raise
-            self.abort_own()
+            number = self.dumped("" if name == "-" else name, progress)
+        except Stop as stop:
+            # (of a file that can't be written a shell goes on)
+            raise Stop(4, str(stop)) from None if stop.status == 6 and name != "-" else stop
+        except Refused as refused:
             self.note_lapse(refused)
             raise Stop(1, f"{refused}: not all records were written") from None
         finally:
             progress.end()
-        write_all(b"dumped %d\n" % number)
+        if name != "-":
+            write_all(b"dumped %d\n" % number)
+
+    def another(self) -> Session:
+        """A session with the same store: a program of one's own has one."""
+        return self.session if self.session.process else self.connect()
+
+    def dumped(self, file: str, progress: Progress) -> int:
+        """How many records were written, unless none is."""
+        output, pages = Output(file, self.escapes), Pages(self.another, self.session)
+        try:
+            if self.transaction:
+                number = dump_rows(self.session, output.write, progress)
+                output.keep()
+                return number
+            return dump_all(pages, output, progress, HOLD_MILLIS, Tries(TRIES))
+        except BaseException as fault:
+            output.drop()
+            if not isinstance(fault, Stop) or fault.status < 5:
+                self.abort_own()
+            raise
+        finally:
+            pages.leave()
 
     def note_lapse(self, refused: Exception) -> None:
         """Where the server aborted the transaction, none is active."""
@@ -283,14 +309,20 @@ class Shell:
     def count(self, words: str) -> None:
         """Counts the records, or those of a range, by a transaction of its own, where none is active."""
         is_one = len(words_of(words)) == 1 if self.escapes else " " not in words
-        lines = [self.spelled(f"LOCK S {words} {words}" if is_one else f"LOCK S {words}")] if words else []
+        ends = f"{words} {words}" if words and is_one else words
+        lock, tries = self.spelled(f"LOCK S {ends}") if words else b"LOCK S %b %b" % (LEAST, GREATEST), Tries(TRIES)
+
+        def begin() -> None:
+            hold(self.session, tries.part_of(HOLD_MILLIS))
+            self.wanted(b"BEGIN")
+            self.wanted(lock)
+
         try:
-            if not self.transaction:
-                self.wanted(b"BEGIN")
-            for line in lines:
-                self.wanted(line)
-            ends = lines[0].split(b" ")[2:] if lines else [b"!", b"~" * 32]
-            number = sum(map(len, scans(self.session, *ends)))
+            if self.transaction:
+                self.wanted(lock)
+            else:
+                tries.until_done(begin, self.session.abort)
+            number = sum(map(len, scans(self.session, *lock.split(b" ")[2:])))
             if not self.transaction:
                 self.wanted(b"COMMIT")
         except Refused as refused:

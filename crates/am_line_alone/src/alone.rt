@@ -1,7 +1,7 @@
 //! A session on a store of its own.
 
 ghost use Rattle.am_record.specs.Limits.{max_limit};
-ghost use Rattle.std.specs.Prelude.{◌≡◌, ◌+◌, ◌^◌, ◌<◌, ◌≤◌, false};
+ghost use Rattle.std.specs.Prelude.{◌≡◌, ◌≢◌, ◌+◌, ◌^◌, ◌<◌, ◌≤◌, false};
 ghost use Rattle.am_line_session.specs.ServedSessions.{read_failures, write_failures, IsSentOn};
 ghost use Rattle.am_line_alone.specs.StoreSessions.{Spoke, WroteFor};
 
@@ -37,6 +37,7 @@ pub fn serve_alone<W: Wait + Clock, K: Sink, S: AnsweredSource<K>>(
     ensures sent { IsSentOn result (K.pending sink.new ≡ false) }
     ensures source_failures { S.failures source.new ≡ S.failures source.old + read_failures result }
     ensures sink_failures { K.failures sink.new ≡ K.failures sink.old + write_failures result }
+    ensures unended { result ≢ End.EndedByAnother }
 {
     am_law_sound::steps_lift();
     am_law_serial::sound_traces_are_legal();

@@ -49,6 +49,9 @@ impl SoloStore {
 impl Backend for SoloStore {
     ghost means = { solo_meaning };
 
+    // Nobody else is there.
+    ghost ended = { ⊥ };
+
     // Nobody is kept out.
     type Held = ();
 
@@ -62,12 +65,16 @@ impl Backend for SoloStore {
         (0, self.store.commits())
     }
 
-    // Nobody else is there.
     fn hold<W: Wait + Clock>(&self, _rt: &W, _millis: u64) -> HoldAnswer {
         HoldAnswer::Granted
     }
 
-    fn who<W: Wait + Clock>(&self, _rt: &W, alloc: Global) -> Result<ActiveSessions, NoMemory> {
+    fn who<W: Wait + Clock>(
+        &self,
+        _rt: &W,
+        alloc: Global,
+        _held: &Option<()>,
+    ) -> Result<ActiveSessions, NoMemory> {
         let mut sessions = Vec::new(alloc);
         if let Some(tx) = self.active {
             sessions.push(ActiveSession {
@@ -79,12 +86,16 @@ impl Backend for SoloStore {
         Ok(ActiveSessions::new(sessions))
     }
 
-    fn end<W: Wait>(&self, _rt: &W, session: u64) -> EndAnswer {
+    fn end<W: Wait>(&self, _rt: &W, session: u64, _held: &Option<()>) -> EndAnswer {
         if session == 0 {
             EndAnswer::EndsItself
         } else {
             EndAnswer::NoSession
         }
+    }
+
+    fn is_ended(&self) -> bool {
+        false
     }
 
     // Nobody waits for what it holds.

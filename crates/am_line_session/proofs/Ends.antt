@@ -4,8 +4,8 @@ use Rattle.am_law_serial.specs.Trace.{Trace}
 use Rattle.am_line_dialogue.specs.Exchanges.{Exchange}
 use Rattle.am_line_session.specs.ServedSessions.{EndsBy, IsEnded}
 use Rattle.am_line_session.specs.declared.end.End.{End}
-use Rattle.am_line_session.specs.declared.end.End.TheVariants.{Quit, EndedItself, EndOfInput, ReadFailed, WriteFailed}
-use Rattle.am_line_session.specs.declared.end.End.TheVariants.{NoMemory}
+use Rattle.am_line_session.specs.declared.end.End.TheVariants.{Quit, EndedItself, EndedByAnother, EndOfInput}
+use Rattle.am_line_session.specs.declared.end.End.TheVariants.{ReadFailed, WriteFailed, NoMemory}
 
 module _ (took took' gave gave' parted parted' : List ℕ → Type 0) (done done' : Type 0)
     (answers answers' : List Exchange → Option Exchange → Trace → Type 0) (untouched untouched' : Type 0)
@@ -47,6 +47,17 @@ module _ (took took' gave gave' parted parted' : List ℕ → Type 0) (done done
     lines = t.lines;
     gives = gives _ t.gives;
     does = does (t.exchanges ++ t.last ∷ []) None t.events t.does;
+  }
+  ends_by EndedByAnother t = record {
+    read = t.read;
+    waiting = t.waiting;
+    exchanges = t.exchanges;
+    events = t.events;
+    takes = takes _ t.takes;
+    ended = t.ended;
+    lines = t.lines;
+    gives = gives _ t.gives;
+    does = does t.exchanges None t.events t.does;
   }
   ends_by EndOfInput t = record {
     read = t.read;

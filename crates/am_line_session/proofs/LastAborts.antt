@@ -14,7 +14,8 @@ use Rattle.am_line_dialogue.specs.Conversation.{SessionPoint, Converses, Leaves,
 use Rattle.am_line_session.specs.Stops.{Rests, Talked}
 use Rattle.am_line_session.specs.declared.session.Stop.TheVariants as stop
 use Rattle.am_line_session.specs.ServedSessions.{Served}
-use Rattle.am_line_session.specs.declared.end.End.TheVariants.{Quit, EndedItself, EndOfInput, ReadFailed, WriteFailed}
+use Rattle.am_line_session.specs.declared.end.End.TheVariants.{Quit, EndedItself, EndedByAnother, EndOfInput}
+use Rattle.am_line_session.specs.declared.end.End.TheVariants.{ReadFailed, WriteFailed}
 
 module _ {S K B : Type 0} (comes : S → List ℕ → Type 0) (holds : K → Option (List ℕ)) (parts : B → K → K → Type 0)
     (means : BackendMeaning B) (auto : ℕ) (s s' : S) (k k' : K) (b : B) (at : SessionPoint B) (b' : B)
@@ -73,6 +74,20 @@ module _ {S K B : Type 0} (comes : S → List ℕ → Type 0) (holds : K → Opt
     lines = t.lines;
     gives = t.gives;
     does = answered (t.exchanges ++ t.last ∷ []) None t.events t.does;
+  }
+
+  pub ended_by_another : Talked comes holds means auto s k (b, []) s' k' at stop.EndedByAnother →
+      Served comes holds parts means auto s k b s' k' b' EndedByAnother
+  ended_by_another t = record {
+    exchanges = t.exchanges;
+    events = t.events ++ left.0;
+    read = t.read;
+    waiting = t.waiting;
+    takes = t.takes;
+    ended = t.ended;
+    lines = t.lines;
+    gives = t.gives;
+    does = answered t.exchanges None t.events t.does;
   }
 
   pub ended_failed : Talked comes holds means auto s k (b, []) s' k' at stop.ReadFailed →

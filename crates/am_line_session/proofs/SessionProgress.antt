@@ -16,8 +16,8 @@ use Rattle.am_line_dialogue.specs.Conversation.{SessionPoint, AnswersLine, Merge
 use Rattle.am_line_session.specs.ServedSessions.{IsEnded, AsksFor, GoOn, is_answered, goes_on}
 use Rattle.am_line_session.specs.Waits.{Waits, MayWait}
 use Rattle.am_line_session.specs.Stops.{Rests, Talked}
-use Rattle.am_line_session.specs.declared.session.Stop.TheVariants.{Quit, EndedItself, EndOfInput, ReadFailed}
-use Rattle.am_line_session.specs.declared.session.Stop.TheVariants.{WriteFailed}
+use Rattle.am_line_session.specs.declared.session.Stop.TheVariants.{Quit, EndedItself, EndedByAnother, EndOfInput}
+use Rattle.am_line_session.specs.declared.session.Stop.TheVariants.{ReadFailed, WriteFailed}
 use Rattle.am_line_session.proofs.Streams.{took_total, appends_none}
 
 -- whole lines were read and answered, none of them QUIT
@@ -227,6 +227,21 @@ module _ {S K B : Type 0} (comes : S → List ℕ → Type 0) (holds : K → Opt
       lines = asks_last;
       gives = subst (λ (x : List ℕ). Gave holds k0 x k) (sym (append-nil (texts t.exchanges))) t.gave;
       parts = tt;
+      does = rests s0 s k0 k b0 b b' w t waits.0 waits.1 waits.2;
+    }
+
+    -- another session ended this one before the line was answered
+    pub talk_ended : (b' : SessionPoint B) → MayWait means b b' →
+        Talked comes holds means auto s0 k0 b0 s' k b' EndedByAnother
+    talk_ended b' waits = record {
+      read = t.read;
+      waiting = l.0 ++ w';
+      exchanges = t.exchanges;
+      events = (t.events ++ []) ++ waits.1;
+      takes = subst (λ (x : List ℕ). Took comes s0 x s') (append_assoc t.read l.0 w') took_more;
+      ended = λ more. t.cut more ∙ ap (λ z. z ++ lines_of more) (sym (all_of s0 s k0 k b0 b w t));
+      lines = asks_of s0 s k0 k b0 b w t;
+      gives = t.gave;
       does = rests s0 s k0 k b0 b b' w t waits.0 waits.1 waits.2;
     }
 

@@ -12,8 +12,8 @@ use Rattle.am_line_dialogue.specs.Conversation.{AnswersAll}
 use Rattle.am_line_session.specs.declared.session.Stop.{Stop}
 use Rattle.am_line_session.specs.declared.session.Stop.TheVariants as stop
 use Rattle.am_line_session.specs.declared.end.End.{End}
-use Rattle.am_line_session.specs.declared.end.End.TheVariants.{Quit, EndedItself, EndOfInput, ReadFailed, WriteFailed}
-use Rattle.am_line_session.specs.declared.end.End.TheVariants.{NoMemory}
+use Rattle.am_line_session.specs.declared.end.End.TheVariants.{Quit, EndedItself, EndedByAnother, EndOfInput}
+use Rattle.am_line_session.specs.declared.end.End.TheVariants.{ReadFailed, WriteFailed, NoMemory}
 
 -- What follows these bytes begins a line of its own.
 abbrev pub IsEnded : List ℕ → Type 0
@@ -74,6 +74,18 @@ module _ (took gave parted : List ℕ → Type 0) (nothing_comes : Type 0)
     pub gives : gave (texts (exchanges ++ last ∷ []))
     pub does : answers (exchanges ++ last ∷ []) None events
 
+  -- another session ended it: the lines before were answered, and what else was taken did nothing
+  pub record EndedByAnotherThere : Type 0 where
+    pub read : List ℕ
+    pub waiting : List ℕ
+    pub exchanges : List Exchange
+    pub events : Trace
+    pub takes : took (read ++ waiting)
+    pub ended : IsEnded read
+    pub lines : AsksFor read exchanges []
+    pub gives : gave (texts exchanges)
+    pub does : answers exchanges None events
+
   -- every line was answered, and nothing more comes
   pub record EndedThere : Type 0 where
     pub read : List ℕ
@@ -122,6 +134,7 @@ module _ (took gave parted : List ℕ → Type 0) (nothing_comes : Type 0)
   abbrev pub EndsBy : End → Type 0
   EndsBy Quit = QuitThere bye
   EndsBy EndedItself = EndedItselfThere
+  EndsBy EndedByAnother = EndedByAnotherThere
   EndsBy EndOfInput = EndedThere
   EndsBy ReadFailed = ReadFailedThere
   EndsBy WriteFailed = AnswerTorn ⊎ ((count : ℕ) × QuitThere (take count bye))
@@ -131,6 +144,7 @@ module _ (took gave parted : List ℕ → Type 0) (nothing_comes : Type 0)
   abbrev pub StopsBy : Stop → Type 0
   StopsBy stop.Quit = QuitThere []
   StopsBy stop.EndedItself = EndedItselfThere
+  StopsBy stop.EndedByAnother = EndedByAnotherThere
   StopsBy stop.EndOfInput = EndedThere
   StopsBy stop.ReadFailed = ReadFailedThere
   StopsBy stop.WriteFailed = AnswerTorn
@@ -156,7 +170,8 @@ abbrev pub write_failures : End → ℕ
 write_failures WriteFailed = 1
 write_failures _ = 0
 
--- all that was written was sent on, unless the sink failed
+-- all that was written was sent on, unless the sink failed, or another session ended this one
 abbrev pub IsSentOn : End → Type 0 → Type 0
 IsSentOn WriteFailed sent = Unit {0}
+IsSentOn EndedByAnother sent = Unit {0}
 IsSentOn end sent = sent

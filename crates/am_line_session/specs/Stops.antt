@@ -9,7 +9,7 @@ use Rattle.am_line_dialogue.specs.Conversation.{SessionPoint, Converses}
 use Rattle.am_line_session.specs.Waits.{Waits}
 use Rattle.am_line_session.specs.ServedSessions.{StopsBy}
 use Rattle.am_line_session.specs.declared.session.Stop.{Stop}
-use Rattle.am_line_session.specs.declared.session.Stop.TheVariants.{Quit, ReadFailed, WriteFailed}
+use Rattle.am_line_session.specs.declared.session.Stop.TheVariants.{Quit, EndedByAnother, ReadFailed, WriteFailed}
 
 -- the lines were answered, and the session waited for a further one, where it didn't end at a line
 abbrev pub Rests : {B : Type 0} → BackendMeaning B → ℕ → SessionPoint B → List Exchange → Option Exchange → Trace →
@@ -32,8 +32,9 @@ abbrev pub writes_failed : Stop → ℕ
 writes_failed WriteFailed = 1
 writes_failed _ = 0
 
--- whether all that was written was sent on; at QUIT it goes out with BYE
+-- whether all that was written was sent on; at QUIT it goes out with BYE, and who was ended by another is cut off
 abbrev pub IsSentBy : Stop → Type 0 → Type 0
 IsSentBy Quit sent = Unit {0}
 IsSentBy WriteFailed sent = Unit {0}
+IsSentBy EndedByAnother sent = Unit {0}
 IsSentBy stop sent = sent

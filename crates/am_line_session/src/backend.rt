@@ -16,6 +16,9 @@ pub trait Backend {
     // Its active transaction, its steps, and what it shows.
     ghost means: { BackendMeaning Self };
 
+    // Whether another session may end this one.
+    ghost ended: { Type 0 };
+
     /// What keeps others' steps out between two steps of a session.
     type Held: Drop;
 
@@ -39,35 +42,52 @@ pub trait Backend {
         requires idle { means.active self.now ≡ None }
         ensures holds { means.holds self.now millis result };
 
-    /// The sessions that have a transaction active. No step is taken.
+    /// The sessions that have a transaction active. No step is taken, and others' steps aren't kept out.
     ///
     /// # Errors
     /// NoMemory, where memory was refused for them.
-    fn who<W: Wait + Clock>(&self, rt: &W, alloc: Global) -> Result<ActiveSessions, NoMemory>
+    fn who<W: Wait + Clock>(
+        &self,
+        rt: &W,
+        alloc: Global,
+        held: &Option<Self::Held>,
+    ) -> Result<ActiveSessions, NoMemory>
+        requires free { held.now ≡ None }
         ensures tells { means.tells self.now result };
 
-    /// Has the session of that number end as one does whose client is gone. Where it is the session itself, that is
-    /// told, and whoever asks ends it. No step is taken.
-    fn end<W: Wait>(&self, rt: &W, session: u64) -> EndAnswer
+    /// Has the session of that number end as one does whose client is gone: none of its lines is taken then. Where it
+    /// is the session itself, that is told, and whoever asks ends it. No step is taken, and others' steps aren't kept
+    /// out, the Abort of what is active there among them.
+    fn end<W: Wait>(&self, rt: &W, session: u64, held: &Option<Self::Held>) -> EndAnswer
+        requires free { held.now ≡ None }
         ensures ends { means.ends self.now session result };
+
+    /// Whether another session ended this one, so that no line of it is taken any more.
+    fn is_ended(&self) -> bool
+        ensures { result ≡ true → ended };
 
     /// Whether a transaction is aborted where no line comes of its session for too long.
     fn may_lapse(&self) -> bool
         ensures lapses { result ≡ true → means.lapses };
 
     /// Returns once it is the session's turn, which has no transaction active: a line of it may be answered, and no
-    /// other holds.
-    fn await_turn<W: Wait + Clock>(&self, rt: &W);
+    /// other holds. It returns too where another session ended this one.
+    fn await_turn<W: Wait + Clock>(&self, rt: &W)
+        requires idle { means.active self.now ≡ None };
 
     /// Returns once the session, which has its turn, may take the step that begins a transaction.
-    fn await_ticket<W: Wait + Clock>(&self, rt: &W);
+    fn await_ticket<W: Wait + Clock>(&self, rt: &W)
+        requires idle { means.active self.now ≡ None };
 
     /// Whether the session, which has no transaction active, would wait for its turn, or to begin one.
-    fn is_kept(&self) -> bool;
+    fn is_kept(&self) -> bool
+        requires idle { means.active self.now ≡ None };
 
     /// The turn is over: what a line asked for is done, and no transaction is active.
-    fn end_turn<W: Wait>(&self, rt: &W);
+    fn end_turn<W: Wait>(&self, rt: &W)
+        requires idle { means.active self.now ≡ None };
 
-    /// The session ends. It has no turn any more, and holds no more.
-    fn end_session<W: Wait>(&self, rt: &W);
+    /// The session ends, with no transaction active. It has no turn any more, and holds no more.
+    fn end_session<W: Wait>(&self, rt: &W)
+        requires idle { means.active self.now ≡ None };
 }

@@ -1,6 +1,7 @@
 //! A session over any backend, line by line.
 
 ghost use Rattle.std.specs.Prelude.{◌≡◌, ◌+◌, ◌^◌, ◌<◌, true, false, None, IfOk, OnOk, OnErr};
+ghost use Rattle.am_record.specs.Sessions.{IsAllowed};
 ghost use Rattle.am_line_sink.specs.SinkWrites.{Wrote};
 ghost use Rattle.am_line_source.specs.Lines.{has_lf};
 ghost use Rattle.am_line_dialogue.specs.Responses.{response_text};
@@ -20,7 +21,9 @@ use std::rt::Clock;
 use std::sync::Wait;
 
 // A session that would begin a transaction waits until it may.
-fn await_ticket<W: Wait + Clock, B: Backend>(rt: &W, backend: &B, step: &Step) {
+fn await_ticket<W: Wait + Clock, B: Backend>(rt: &W, backend: &B, step: &Step)
+    requires { IsAllowed (B.means.active backend.now) step.now }
+{
     if let Step::Begin = step {
         backend.await_ticket(rt);
     }
@@ -63,17 +66,19 @@ fn respond<W: Wait + Clock, B: Backend>(
         Action::AskHold(millis) => Response::Hold(backend.hold(rt, millis)),
         Action::TellWho => {
             *held = None;
-            Response::of_who(backend.who(rt, alloc))
+            Response::of_who(backend.who(rt, alloc, held))
         }
         Action::AskEnd(number) => {
             *held = None;
-            Response::End(backend.end(rt, number))
+            Response::End(backend.end(rt, number, held))
         }
     }
 }
 
 // The session, which has no transaction active, has no turn any more. Whether it would wait for the next one.
-fn gives_way<W: Wait, B: Backend>(rt: &W, backend: &B) -> bool {
+fn gives_way<W: Wait, B: Backend>(rt: &W, backend: &B) -> bool
+    requires { B.means.active backend.now ≡ None }
+{
     backend.end_turn(rt);
     backend.is_kept()
 }

@@ -7,6 +7,8 @@ pub enum End {
     Quit,
     /// END of the session's own number was answered. What came after it was not.
     EndedItself,
+    /// Another session ended it. What came and wasn't answered by then was not taken.
+    EndedByAnother,
     /// The source has no further bytes, and each line was answered.
     EndOfInput,
     /// The source failed. Each line that it had ended was answered.

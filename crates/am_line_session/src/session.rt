@@ -27,6 +27,7 @@ use std::sync::Wait;
 enum Stop {
     Quit,
     EndedItself,
+    EndedByAnother,
     EndOfInput,
     ReadFailed,
     WriteFailed,
@@ -34,13 +35,15 @@ enum Stop {
 
 // Returns once the line may be answered. Who would hold hears at once where another does, and so does who looks for a
 // session that is in the way, or would end it.
-fn await_turn<W: Wait + Clock, B: Backend>(rt: &W, backend: &B, session: &Session, heard: &Heard) {
+fn await_turn<W: Wait + Clock, B: Backend>(rt: &W, backend: &B, session: &Session, heard: &Heard)
+    requires { B.means.active backend.now ≡ session.now.active }
+{
     if session.active().is_none() && !heard.is_urgent() {
         backend.await_turn(rt);
     }
 }
 
-// Answers the lines of a source up to the first QUIT, or the END of the session itself.
+// Answers the lines of a source up to the first QUIT, or the END of the session itself, or until another ended it.
 fn talk<W: Wait + Clock, K: Sink, S: AnsweredSource<K>, B: Backend>(
     rt: &W,
     alloc: Global,
@@ -63,6 +66,7 @@ fn talk<W: Wait + Clock, K: Sink, S: AnsweredSource<K>, B: Backend>(
     ensures sent { IsSentBy result (K.pending sink.new ≡ false) }
     ensures source_failures { S.failures source.new ≡ S.failures source.old + reads_failed result }
     ensures sink_failures { K.failures sink.new ≡ K.failures sink.old + writes_failed result }
+    ensures ended { result ≡ Stop.EndedByAnother → B.ended }
 {
     let mut together = Together::new();
     'lines: for _ in rt.forever() {
@@ -75,6 +79,9 @@ fn talk<W: Wait + Clock, K: Sink, S: AnsweredSource<K>, B: Backend>(
         let found = read.found;
         let heard = hear(alloc, read.is_late, found.kind, line.as_slice());
         await_turn(rt, backend, session, &heard);
+        if backend.is_ended() {
+            return Stop::EndedByAnother;
+        }
         if heard.is_quit() {
             return Stop::Quit;
         }
@@ -115,7 +122,8 @@ fn leave<W: Wait, B: Backend>(rt: &W, backend: &mut B, active: Option<u64>)
 /// Answers the lines of a source up to the first QUIT or the END of the session itself, each by one line, merges once
 /// after each answer where `auto` is above 0, and at the end aborts what is active. The sink has nothing that isn't
 /// sent on. Where the source says that no line came in time, and the backend that its transactions may lapse, the one
-/// that is active is aborted, and the line that comes then is told so, whatever it says, QUIT too.
+/// that is active is aborted, and the line that comes then is told so, whatever it says, QUIT too. Where the backend
+/// says that another session ended this one, no further line is taken, be it at hand or not.
 ///
 /// The backend takes the steps of the lines, the merges and the last Abort; each line that is written is the text of a
 /// line's fault, or of the reply to its step, however the source cuts its bytes. Nothing is unsent whenever the source
@@ -139,6 +147,7 @@ pub fn serve<W: Wait + Clock, K: PartingSink<B>, S: AnsweredSource<K>, B: Backen
     ensures sent { IsSentOn result (K.pending sink.new ≡ false) }
     ensures source_failures { S.failures source.new ≡ S.failures source.old + read_failures result }
     ensures sink_failures { K.failures sink.new ≡ K.failures sink.old + write_failures result }
+    ensures ended { result ≡ End.EndedByAnother → B.ended }
 {
     let Ok(mut input) = Input::new(alloc) else {
         return End::NoMemory;
@@ -162,6 +171,7 @@ pub fn serve<W: Wait + Clock, K: PartingSink<B>, S: AnsweredSource<K>, B: Backen
     backend.end_session(rt);
     match stop {
         Stop::EndedItself => End::EndedItself,
+        Stop::EndedByAnother => End::EndedByAnother,
         Stop::EndOfInput => End::EndOfInput,
         Stop::ReadFailed => End::ReadFailed,
         Stop::WriteFailed => End::WriteFailed,

@@ -12,7 +12,7 @@ pub fn ending(end: &End) -> (u8, &'static str)
     ensures text { result.1.now ≡ ending_words end.now }
 {
     match end {
-        End::Quit | End::EndedItself | End::EndOfInput => (0, ""),
+        End::Quit | End::EndedItself | End::EndedByAnother | End::EndOfInput => (0, ""),
         End::ReadFailed => (6, "amserve: read failed"),
         End::WriteFailed => (6, "amserve: write failed"),
         End::NoMemory => (5, "amserve: no memory"),

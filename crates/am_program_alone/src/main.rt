@@ -47,8 +47,8 @@ fn alone<R: AllocGlobal + Input + Print + Eprint + Clock + RandomSource + Wait>(
 }
 
 fn main(rt: HostRuntime) -> io::Result<ExitCode> {
-    if hold_stack(&rt).is_err() {
-        return OptionsFault::NoMemory.tell(&rt, PROGRAM);
+    if let Err(fault) = hold_stack(&rt) {
+        return fault.tell(&rt, PROGRAM);
     }
     let words = match words(&rt) {
         Ok(words) => words,

@@ -7,7 +7,7 @@ mod output;
 mod records;
 
 use am_line_sink::Writing;
-use am_program_start::{Audited, OptionsFault, audited, hold_stack, words};
+use am_program_start::{Audited, audited, hold_stack, words};
 use answer::answer;
 use judgement::{Judgement, say};
 use output::Output;
@@ -59,8 +59,8 @@ fn audit<R: AllocGlobal + Files + Input + Print + Eprint>(rt: &R, asked: &Audite
 }
 
 fn main(rt: HostRuntime) -> io::Result<ExitCode> {
-    if hold_stack(&rt).is_err() {
-        return OptionsFault::NoMemory.tell(&rt, PROGRAM);
+    if let Err(fault) = hold_stack(&rt) {
+        return fault.tell(&rt, PROGRAM);
     }
     let words = match words(&rt) {
         Ok(words) => words,

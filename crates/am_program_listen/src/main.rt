@@ -33,8 +33,8 @@ fn asked<'a>(alloc: Global, words: &'a [String]) -> Result<Listening<'a>, Option
 }
 
 fn main(rt: HostRuntime) -> io::Result<ExitCode> {
-    if hold_stack(&rt).is_err() {
-        return OptionsFault::NoMemory.tell(&rt, PROGRAM);
+    if let Err(fault) = hold_stack(&rt) {
+        return fault.tell(&rt, PROGRAM);
     }
     let words = match words(&rt) {
         Ok(words) => words,
@@ -75,5 +75,5 @@ fn main(rt: HostRuntime) -> io::Result<ExitCode> {
             served
         },
     );
-    close(&rt, &listening, file.as_ref(), outbox.is_failed(), served)
+    close(&rt, &listening, file.as_ref(), &outbox, served)
 }

@@ -186,6 +186,7 @@ fn serve_with<
     let limits = Limits {
         idle: listening.idle.map(Duration::from_secs),
         lapse: seconds(listening.lapse),
+        idle_seat: seconds(listening.idle_seat),
         hold: listening.hold,
     };
     let setup = DrainSetup {
@@ -267,7 +268,7 @@ pub(crate) fn close<R: Files<File = File> + Print + Eprint>(
     rt: &R,
     listening: &Listening<'_>,
     file: Option<&TraceFile>,
-    is_failed: bool,
+    outbox: &Outbox,
     served: Result<Served, ListenFault>,
 ) -> io::Result<ExitCode> {
     remove_socket(rt, listening);
@@ -280,7 +281,7 @@ pub(crate) fn close<R: Files<File = File> + Print + Eprint>(
         }
     };
     let (is_cut, version) = (
-        served.is_cut || is_failed,
+        served.is_cut || outbox.is_failed(),
         version_of(lifetime_of(listening)),
     );
     let stored = store_trace(rt, file, is_cut, version, served.needs_three);
@@ -288,8 +289,8 @@ pub(crate) fn close<R: Files<File = File> + Print + Eprint>(
         println!(rt; "CLOSED {} {}", served.events, served.commits)?;
     }
     match stored {
-        // A server that stays said what fails when it failed.
-        Err(fault) if stays => Ok(ExitCode::from(fault.status())),
+        // A server that stays said what fails when it failed, unless that was after its last look.
+        Err(fault) if stays && !outbox.is_untold() => Ok(ExitCode::from(fault.status())),
         _ if !stays && !served.accepted_all => tell(rt, listening, &ListenFault::CannotAccept),
         Err(fault) => tell(rt, listening, &fault),
         Ok(()) => Ok(ExitCode::SUCCESS),

@@ -1,6 +1,6 @@
 //! What a server that stays says on standard error while it runs.
 
-ghost use Rattle.std.specs.Prelude.{◌≡◌, false, not};
+ghost use Rattle.std.specs.Prelude.{◌≡◌, false};
 ghost use Rattle.am_program_listen.specs.Reports.{is_due};
 
 use crate::fault::ListenFault;
@@ -33,7 +33,6 @@ pub struct Reporter<'r, 'o, R> {
     stays: bool,
     told_at: Option<Instant>,
     told_accept: bool,
-    told_cut: bool,
 }
 
 impl<'r, 'o, R: AllocGlobal + Eprint + Clock + Wait> Reporter<'r, 'o, R> {
@@ -41,7 +40,7 @@ impl<'r, 'o, R: AllocGlobal + Eprint + Clock + Wait> Reporter<'r, 'o, R> {
     pub fn new(rt: &'r R, outbox: &'o Outbox, listening: &Listening<'_>) -> Reporter<'r, 'o, R>
         ensures logged { result.is_logged ≡ listening.now.is_logged }
         ensures stays { result.stays ≡ listening.now.stays }
-        ensures told { (result.told_accept ≡ false) × (result.told_cut ≡ not listening.now.stays) }
+        ensures told { result.told_accept ≡ false }
     {
         Reporter {
             rt,
@@ -50,7 +49,6 @@ impl<'r, 'o, R: AllocGlobal + Eprint + Clock + Wait> Reporter<'r, 'o, R> {
             stays: listening.stays,
             told_at: Instant::now(rt).ok(),
             told_accept: false,
-            told_cut: !listening.stays,
         }
     }
 
@@ -87,9 +85,8 @@ impl<'r, 'o, R: AllocGlobal + Eprint + Clock + Wait> Reporter<'r, 'o, R> {
     }
 
     // Says once that the trace is cut, unless its file said so.
-    fn tell_cut(&mut self, counts: &ServerCounts) {
-        if counts.is_cut && !self.outbox.is_failed() && !self.told_cut {
-            self.told_cut = true;
+    fn tell_cut(&self, counts: &ServerCounts) {
+        if counts.is_cut && self.stays && self.outbox.is_untold() {
             let _ = eprintln!(self.rt; "{}", ListenFault::CannotWriteTrace(None).words());
         }
     }

@@ -1,6 +1,6 @@
 -- What a command line of `amserve` asks for, by clap's meaning of its words.
 use Rattle.std.specs.Prelude.{◌≡◌, ◌≢◌, ◌≤◌, ◌↔◌, IsTrue, ℕ, List, [], Option, Some, None, codes, cond, false, is_some}
-use Rattle.std.specs.Prelude.{not, true}
+use Rattle.std.specs.Prelude.{Bool, not, true}
 use Rattle.std.specs.Prelude.{IsSomeAnd, option_map}
 use Rattle.std.specs.Str.Parse.{IsNumeral, digits_value, without_leading_plus}
 use Rattle.clap.specs.Words.{App, Row, Rule, Shape, Text, first_of, new_app, new_rule}
@@ -43,6 +43,13 @@ lapse = record { least = 0; most = 0; default = Some 0 }
 abbrev pub staying_lapse : Setting
 staying_lapse = record { least = 0; most = 43200; default = Some 60 }
 
+abbrev pub idle_seat : Setting
+idle_seat = record { least = 0; most = 0; default = Some 0 }
+
+-- of a server that stays
+abbrev pub staying_idle_seat : Setting
+staying_idle_seat = record { least = 0; most = 43200; default = Some 60 }
+
 abbrev pub workers : Setting
 workers = record { least = 0; most = 16; default = Some 1 }
 
@@ -73,7 +80,7 @@ common_app =
     let with_workers = with_rule with_sessions (number_rule (option_rule (codes "workers")) workers) in
     with_rule with_workers (option_rule (codes "trace"))
 
--- and `[--stop] [--hold MS] [--stay] [--grace S] [--idle S] [--idle-transaction S] [--log]`
+-- and `[--stop] [--hold MS] [--stay] [--grace S] [--idle S] [--idle-transaction S] [--idle-seat S] [--log]`
 abbrev pub listen_app : App
 listen_app =
     let with_stop = with_rule common_app (flag_rule (codes "stop")) in
@@ -82,7 +89,8 @@ listen_app =
     let with_grace = with_rule with_stay (number_rule (option_rule (codes "grace")) grace) in
     let with_idle = with_rule with_grace (number_rule (option_rule (codes "idle")) idle) in
     let with_lapse = with_rule with_idle (number_rule (option_rule (codes "idle-transaction")) staying_lapse) in
-    with_rule with_lapse (flag_rule (codes "log"))
+    let with_idle_seat = with_rule with_lapse (number_rule (option_rule (codes "idle-seat")) staying_idle_seat) in
+    with_rule with_idle_seat (flag_rule (codes "log"))
 
 -- `amserve`, which has a version and wants a subcommand
 abbrev pub amserve_shape : Shape
@@ -129,6 +137,13 @@ pub record NamesPlace (port_text socket_text : Option Text) (place : Place) : Ty
   pub socket_named : socket_of place ≡ socket_text
   pub socket_has_name : socket_text ≢ Some []
 
+-- the rows give the limit on transactions that sleep, by whether the server stays, and that on seats
+abbrev pub SetsLapse : List Row → Bool → ℕ → Type 0
+SetsLapse rows stays = Sets (cond stays staying_lapse lapse) (first_of (codes "idle-transaction") rows)
+
+abbrev pub SetsIdleSeat : List Row → Bool → ℕ → Type 0
+SetsIdleSeat rows stays = Sets (cond stays staying_idle_seat idle_seat) (first_of (codes "idle-seat") rows)
+
 -- the rows of `listen` name the place, these numbers and the trace's file, which has a name, and say whether to await a
 -- STOP, whether the server stays, and whether it tells how it does; limits of time, and that it tells, go with one that
 -- stays
@@ -144,8 +159,8 @@ pub record NamesListening (rows : List Row) (listening : Listening) : Type 0 whe
   pub stay_told : IsTrue listening.stays ↔ (first_of (codes "stay") rows ≡ Some (codes "true"))
   pub grace_set : SetsIfGiven grace (first_of (codes "grace") rows) listening.grace
   pub idle_set : SetsIfGiven idle (first_of (codes "idle") rows) listening.idle
-  pub lapse_set : Sets (cond listening.stays staying_lapse lapse) (first_of (codes "idle-transaction") rows)
-      listening.lapse
+  pub lapse_set : SetsLapse rows listening.stays listening.lapse
+  pub idle_seat_set : SetsIdleSeat rows listening.stays listening.idle_seat
   pub log_told : IsTrue listening.is_logged ↔ (first_of (codes "log") rows ≡ Some (codes "true"))
   pub together : listening.stays ≡ false → (listening.grace ≡ None) × (listening.idle ≡ None) ×
       (listening.is_logged ≡ false)

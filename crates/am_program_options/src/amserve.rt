@@ -6,6 +6,7 @@ ghost use Rattle.clap.specs.Words.{app_of, first_of, found_of, rows_of, rule_of,
 ghost use Rattle.am_program_start.specs.Arguments.{IsCommand};
 ghost use Rattle.am_program_start.specs.Faults.{Refuses};
 ghost use Rattle.am_program_options.specs.Options.{Names, NamesListening, NamesPlace, Selects, Sets, SetsIfGiven};
+ghost use Rattle.am_program_options.specs.Options.{SetsIdleSeat, SetsLapse};
 ghost use Rattle.am_program_options.specs.Options.{alone_app, amserve_app, common_app, listen_app, number_rule};
 ghost use Rattle.am_program_options.specs.Options.{option_rule};
 
@@ -79,6 +80,21 @@ const STAYING_LAPSE: Setting = Setting {
     default: Some(60),
 };
 
+/// After how many seconds without a line a session without a transaction makes way for another; 0 for never. In a
+/// bounded server none does.
+const IDLE_SEAT: Setting = Setting {
+    least: 0,
+    most: 0,
+    default: Some(0),
+};
+
+/// The same of a server that stays.
+const STAYING_IDLE_SEAT: Setting = Setting {
+    least: 0,
+    most: 43_200,
+    default: Some(60),
+};
+
 /// For how many milliseconds at most a session may hold.
 const HOLD: Setting = Setting {
     least: 0,
@@ -119,7 +135,7 @@ fn expected(matches: &ArgMatches<'_>) -> &'static str {
                 .or(text_in(given, "socket"))
                 .is_none() => { "listen wants --port P, --socket PATH or both" }
         _ => {
-            "expected alone or listen, files that have names, and --stay beside --grace, --idle, --idle-transaction and --log"
+            "expected alone or listen, files that have names, and --stay beside --grace, --idle, --idle-transaction, --idle-seat and --log"
         }
     }
 }
@@ -152,7 +168,8 @@ fn alone<'a>(alloc: Global) -> Result<Command<'a>, AllocError>
 }
 
 /// `listen`, with what each server takes, `[--stop] [--hold MS]` too, and what goes with one that stays:
-/// `[--stay] [--grace S] [--idle S] [--idle-transaction S] [--log]`. It has a frame of its own, so that none is large.
+/// `[--stay] [--grace S] [--idle S] [--idle-transaction S] [--idle-seat S] [--log]`. It has a frame of its own, so that
+/// none is large.
 #[inline(never)]
 fn listen<'a>(alloc: Global) -> Result<Command<'a>, AllocError>
     ensures { IfOk result (λ command. IsCommand listen_app command) }
@@ -195,6 +212,13 @@ fn listen<'a>(alloc: Global) -> Result<Command<'a>, AllocError>
             "S",
             "With --stay: abort a transaction where no line came for S seconds, 0 to 43200; 0 for none [default: 60]",
             STAYING_LAPSE,
+        ))?
+        .arg(number(
+            alloc,
+            "idle-seat",
+            "S",
+            "With --stay: where all sessions are taken, end for a newcomer the one that was idle longest, without a transaction, for more than S seconds, 0 to 43200; 0 for never [default: 60]",
+            STAYING_IDLE_SEAT,
         ))?
         .arg(flag(
             alloc,
@@ -304,7 +328,7 @@ fn listening_in<'a>(given: &ArgMatches<'a>) -> Option<Listening<'a>>
 {
     let stays = is_given(given, "stay");
     let sessions = if stays { STAYING_SESSIONS } else { SESSIONS };
-    let lapse = if stays { STAYING_LAPSE } else { LAPSE };
+    let silence = silence_in(given, stays)?;
     let listening = Listening {
         place: place_in(text_in(given, "port"), text_in(given, "socket"))?,
         sessions: u64::from(number_in(given, "sessions", sessions)?),
@@ -315,7 +339,8 @@ fn listening_in<'a>(given: &ArgMatches<'a>) -> Option<Listening<'a>>
         stays,
         grace: seconds_in(text_in(given, "grace"), GRACE)?,
         idle: seconds_in(text_in(given, "idle"), IDLE)?,
-        lapse: u64::from(number_in(given, "idle-transaction", lapse)?),
+        lapse: silence.lapse,
+        idle_seat: silence.idle_seat,
         is_logged: is_given(given, "log"),
     };
     let is_limited = listening.grace.is_some() || listening.idle.is_some();
@@ -323,6 +348,29 @@ fn listening_in<'a>(given: &ArgMatches<'a>) -> Option<Listening<'a>>
         return None;
     }
     Some(listening)
+}
+
+/// After how many seconds without a line a transaction lapses, and a session makes way for another; 0 for never.
+#[derive(Clone, Copy)]
+struct Silence {
+    lapse: u64,
+    idle_seat: u64,
+}
+
+/// What `listen` was given of that, or has by default, by whether the server stays.
+fn silence_in(given: &ArgMatches<'_>, stays: bool) -> Option<Silence>
+    ensures { MatchOption result
+        ((lapse idle_seat : ℕ) → SetsLapse (rows_of (found_of given.now)) stays lapse →
+        SetsIdleSeat (rows_of (found_of given.now)) stays idle_seat → ⊥)
+        (λ silence. SetsLapse (rows_of (found_of given.now)) stays silence.lapse ×
+        SetsIdleSeat (rows_of (found_of given.now)) stays silence.idle_seat) }
+{
+    let lapse = if stays { STAYING_LAPSE } else { LAPSE };
+    let idle_seat = if stays { STAYING_IDLE_SEAT } else { IDLE_SEAT };
+    Some(Silence {
+        lapse: u64::from(number_in(given, "idle-transaction", lapse)?),
+        idle_seat: u64::from(number_in(given, "idle-seat", idle_seat)?),
+    })
 }
 
 /// Where the texts of `--port` and `--socket` have a server listen. None where neither is given, the port isn't within

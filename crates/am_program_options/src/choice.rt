@@ -70,6 +70,9 @@ pub struct Listening<'a> {
     /// After how many seconds without a line of its session a transaction of a server that stays is aborted: 0 to
     /// 43,200, and 0 for none.
     pub lapse: u64,
+    /// After how many seconds without a line a session of a server that stays makes way for another, where all are
+    /// taken and it has no transaction; 0 to 43,200, and 0 for never.
+    pub idle_seat: u64,
     /// Whether a server that stays tells each minute, and at the end, how it does.
     pub is_logged: bool,
 }

@@ -15,7 +15,8 @@ use Rattle.am_program_start.specs.Faults.{IsFaultOf, Refuses, is_request}
 use Rattle.am_program_start.specs.AuditCommand.{AsksToAudit, NamesAudited, amaudit_app}
 use Rattle.am_program_start.specs.declared.choice.Audited.{Audited}
 use Rattle.am_program_start.specs.declared.fault.OptionsFault.{OptionsFault}
-use Rattle.am_program_start.specs.declared.fault.OptionsFault.TheVariants.{Asked, Wrong, Unserved, NotText, NoMemory}
+use Rattle.am_program_start.specs.declared.fault.OptionsFault.TheVariants.{Asked, Wrong, Unserved, NotText}
+use Rattle.am_program_start.specs.declared.fault.OptionsFault.TheVariants.{NoStack, NoMemory}
 
 pub arg_added : (before after : Command) (argument : Arg) (app : App) (rule : Rule) → IsCommand app before
     → (rule_of argument ≡ rule) × (argument.global ≡ false) → AddsArg before argument after →
@@ -59,4 +60,5 @@ refused_by_clap names its app free e words fault app_is kinds said =
     by_fault (Wrong text) (inr h) wrong = (kind_of e, among h, wrong.0)
     by_fault (Unserved why) k h = absurd h
     by_fault NotText k h = absurd h
+    by_fault NoStack k h = absurd h
     by_fault NoMemory k h = tt

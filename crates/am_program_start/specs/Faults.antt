@@ -7,7 +7,8 @@ use Rattle.clap.specs.Kinds.{IsAmong}
 use Rattle.clap.specs.declared.error.kind.ErrorKind.{ErrorKind}
 use Rattle.clap.specs.declared.error.kind.ErrorKind.TheVariants.{DisplayHelp, DisplayVersion, OutOfMemory}
 use Rattle.am_program_start.specs.declared.fault.OptionsFault.{OptionsFault}
-use Rattle.am_program_start.specs.declared.fault.OptionsFault.TheVariants.{Asked, Wrong, Unserved, NotText, NoMemory}
+use Rattle.am_program_start.specs.declared.fault.OptionsFault.TheVariants.{Asked, Wrong, Unserved, NotText}
+use Rattle.am_program_start.specs.declared.fault.OptionsFault.TheVariants.{NoStack, NoMemory}
 
 -- the program's status
 abbrev pub status_of : OptionsFault → ℕ
@@ -15,6 +16,7 @@ status_of (Asked text) = 0
 status_of (Wrong text) = 2
 status_of (Unserved why) = 2
 status_of NotText = 2
+status_of NoStack = 5
 status_of NoMemory = 5
 
 -- what the program of that name says of it
@@ -23,6 +25,7 @@ message_of program (Asked text) = trim_end (string_bytes text)
 message_of program (Wrong text) = trim_end (string_bytes text)
 message_of program (Unserved why) = program ++ codes ": " ++ why.now
 message_of program NotText = program ++ codes ": a word is not UTF-8"
+message_of program NoStack = program ++ codes ": the stack is limited to less than 512 KB (ulimit -s)"
 message_of program NoMemory = program ++ codes ": no memory"
 
 -- whether help or the version was asked for
@@ -48,4 +51,5 @@ Refuses app names words (Wrong text) =
 Refuses {Named} app names words (Unserved why) =
     (fault_of app words ≡ []) × ((named : Named) → names words named → ⊥)
 Refuses app names words NotText = ⊥
+Refuses app names words NoStack = ⊥
 Refuses app names words NoMemory = Unit {0}

@@ -21,19 +21,22 @@ pub enum OptionsFault {
     Unserved(&'static str),
     /// A word is not UTF-8.
     NotText,
+    /// The stack is limited to less than a program needs.
+    NoStack,
     /// Memory was refused.
     NoMemory,
 }
 
 impl OptionsFault {
-    /// The program's status: 0 where help or the version was asked for, 5 where memory was refused, else 2.
+    /// The program's status: 0 where help or the version was asked for, 5 where memory was refused or the stack is too
+    /// small, else 2.
     pub fn status(&self) -> u8
         ensures { result ≡ status_of self.now }
     {
         match self {
             OptionsFault::Asked(_) => 0,
             OptionsFault::Wrong(_) | OptionsFault::Unserved(_) | OptionsFault::NotText => 2,
-            OptionsFault::NoMemory => 5,
+            OptionsFault::NoStack | OptionsFault::NoMemory => 5,
         }
     }
 
@@ -75,6 +78,10 @@ impl fmt::Display for Message<'_> {
             OptionsFault::Asked(text) | OptionsFault::Wrong(text) => f.write_str(text.trim_end()),
             OptionsFault::Unserved(why) => write!(f, "{program}: {why}"),
             OptionsFault::NotText => write!(f, "{program}: a word is not UTF-8"),
+            OptionsFault::NoStack => write!(
+                f,
+                "{program}: the stack is limited to less than 512 KB (ulimit -s)"
+            ),
             OptionsFault::NoMemory => write!(f, "{program}: no memory"),
         }
     }

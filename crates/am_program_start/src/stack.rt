@@ -1,8 +1,9 @@
 //! The stack of a program's first thread, made sure of at its start.
 
-ghost use Rattle.std.specs.Prelude.{◌≡◌};
+ghost use Rattle.std.specs.Prelude.{◌≡◌, ◌⊎◌, Err, OnErr};
+ghost use Rattle.am_program_start.specs.declared.fault.OptionsFault.TheVariants.{NoStack, NoMemory};
 
-use std::alloc::AllocError;
+use crate::fault::OptionsFault;
 use std::fs;
 use std::rt::Files;
 
@@ -25,10 +26,12 @@ const LIMITS: &str = "/proc/self/limits";
 /// and then the stack is touched down to there. A stack that is limited to less isn't touched.
 ///
 /// # Errors
-/// AllocError, where there is no such room.
-pub fn hold_stack<R: AllocGlobal + Files>(rt: &R) -> Result<(), AllocError> {
+/// NoStack, where the stack is limited to less than 512 KB; NoMemory, where there is no such room.
+pub fn hold_stack<R: AllocGlobal + Files>(rt: &R) -> Result<(), OptionsFault>
+    ensures { OnErr result ((result ≡ Err NoStack) ⊎ (result ≡ Err NoMemory)) }
+{
     if stack_limit(rt).is_some_and(|limit| limit < LEAST_STACK) {
-        return Err(AllocError);
+        return Err(OptionsFault::NoStack);
     }
     let room: Vec<u8> = Vec::with_capacity(rt.alloc(), usize::from(PAGES + 1) * PAGE_LEN)?;
     drop(room);
@@ -36,7 +39,7 @@ pub fn hold_stack<R: AllocGlobal + Files>(rt: &R) -> Result<(), AllocError> {
     if reached(PAGES) == PAGES {
         Ok(())
     } else {
-        Err(AllocError)
+        Err(OptionsFault::NoMemory)
     }
 }
 

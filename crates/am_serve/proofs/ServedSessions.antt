@@ -5,8 +5,8 @@ use Rattle.am_line_dialogue.specs.Exchanges.{Exchange}
 use Rattle.am_line_dialogue.specs.Conversation.{AnswersAll}
 use Rattle.am_line_session.specs.ServedSessions.{Served}
 use Rattle.am_line_session.specs.declared.end.End.{End}
-use Rattle.am_line_session.specs.declared.end.End.TheVariants.{Quit, EndedItself, EndOfInput, ReadFailed, WriteFailed}
-use Rattle.am_line_session.specs.declared.end.End.TheVariants.{NoMemory}
+use Rattle.am_line_session.specs.declared.end.End.TheVariants.{Quit, EndedItself, EndedByAnother, EndOfInput}
+use Rattle.am_line_session.specs.declared.end.End.TheVariants.{ReadFailed, WriteFailed, NoMemory}
 use Rattle.am_serve_seat.specs.SessionSeats.{SessionSeatState, seat_meaning, HasReceipts, IsPublishedByReceipt}
 use Rattle.am_serve.specs.ServerTraces.{HasSameSeat, WasServed}
 
@@ -17,6 +17,7 @@ module _ {S K : Type 0} (most_runs : ℕ) (comes : S → List ℕ → Type 0) (h
       WasServed most_runs b b'
   was_served Quit h = inr (h.exchanges, None, h.events, h.does)
   was_served EndedItself h = inr (h.exchanges ++ h.last ∷ [], None, h.events, h.does)
+  was_served EndedByAnother h = inr (h.exchanges, None, h.events, h.does)
   was_served EndOfInput h = inr (h.exchanges, None, h.events, h.does)
   was_served ReadFailed h = inr (h.exchanges, None, h.events, h.does)
   was_served WriteFailed (inl h) = inr (h.exchanges, Some h.last, h.events, h.does)

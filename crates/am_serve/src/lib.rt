@@ -8,7 +8,6 @@
 //! - [`serve_session`]: one session at its [`am_serve_seat::SessionSeat`], over any source and sink.
 #![tactic(auto)]
 
-mod answer_writer;
 mod listener;
 mod server;
 mod server_trace;

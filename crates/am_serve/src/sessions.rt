@@ -5,12 +5,11 @@ ghost use Rattle.am_line_session.specs.ServedSessions.{Served, read_failures, wr
 ghost use Rattle.am_serve_seat.specs.SessionSeats.{open_at, seat_meaning, IsNumbered, IsPublishedByReceipt};
 ghost use Rattle.am_serve.specs.ServerTraces.{WasServed};
 
-use crate::answer_writer::AnswerWriter;
 use am_latch::LatchName;
 use am_line_session::{End, PartingSink, serve};
 use am_line_sink::{Sink, Writing};
 use am_line_source::{AnsweredSource, Source};
-use am_serve_connections::{CountingSink, OwnLines, SharedState};
+use am_serve_connections::{AnswerWriter, Client, CountingSink, OwnLines, SharedState};
 use am_serve_seat::SessionSeat;
 use std::alloc::Global;
 use std::io::{BufWriter, Write};
@@ -47,12 +46,14 @@ pub fn serve_session<
     serve(rt, alloc, source, sink, session_seat, 0)
 }
 
-/// Serves one connection to its end. What comes from it is the source's, as far as that is lines of the protocol.
+/// Serves one connection to its end, with answers that go to this client. What comes from it is the source's, as far as
+/// that is lines of the protocol.
 pub(crate) fn serve_connection<'a, W: Wait + Clock, S: Source + Drop, L: LatchName>(
     rt: &W,
     alloc: Global,
     shared: &SharedState<'_>,
     stream: &TcpStream,
+    client: &Client<'_, W>,
     source: &mut OwnLines<S>,
     session_seat: &mut SessionSeat<'a, L>,
 )
@@ -63,15 +64,16 @@ pub(crate) fn serve_connection<'a, W: Wait + Clock, S: Source + Drop, L: LatchNa
     ensures seat { session_seat.new.seat.number ≡ session_seat.old.seat.number }
     ensures left { WasServed L.most_runs session_seat.old session_seat.new }
 {
-    // Each answer is written whole, and goes out at once where the system can be told so.
-    let _ = stream.set_nodelay(true);
-    let Ok(writer) = BufWriter::new(alloc, AnswerWriter::new(stream, shared.idle.is_some())) else {
+    let Ok(writer) = BufWriter::new(alloc, AnswerWriter::new(client)) else {
         refuse(stream);
         return;
     };
     let mut sink = CountingSink::new(Writing::new(writer), &shared.pacer);
-    if let End::NoMemory = serve_session(rt, alloc, source, &mut sink, session_seat) {
-        refuse(stream);
+    match serve_session(rt, alloc, source, &mut sink, session_seat) {
+        End::NoMemory => refuse(stream),
+        // The client takes no answers any more.
+        End::WriteFailed => {}
+        _ => client.finish(),
     }
 }
 

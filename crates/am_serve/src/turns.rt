@@ -8,21 +8,12 @@ ghost use Rattle.am_serve_connections.specs.Lifetimes.{most_sessions};
 
 use crate::sessions::{refuse, serve_connection};
 use am_latch::LatchName;
-use am_serve_connections::{ClientBytes, OwnLines, SharedState, turn_away};
+use am_serve_connections::{Client, ClientBytes, OwnLines, SharedState, turn_away};
 use am_serve_seat::SessionSeat;
 use std::alloc::Global;
 use std::net::TcpStream;
 use std::rt::Clock;
 use std::sync::{Arc, Wait};
-use std::time::Duration;
-
-// Where nothing comes, or nothing is taken, for longer than that, the session ends.
-fn limit_idleness(stream: &TcpStream, idle: Option<Duration>) {
-    if idle.is_some() {
-        let _ = stream.set_read_timeout(idle);
-        let _ = stream.set_write_timeout(idle);
-    }
-}
 
 // Serves a connection to its end, where it can be cut.
 fn serve_at_place<'a, R: Wait + Clock, L: LatchName>(
@@ -50,25 +41,31 @@ fn serve_at_place<'a, R: Wait + Clock, L: LatchName>(
         refuse(&connection);
         return;
     };
-    let Ok(mut source) = OwnLines::new(
+    let client = Client::new(
+        rt,
         alloc,
-        ClientBytes::new(
-            rt,
-            &*connection,
-            shared.lapse,
-            shared.idle,
-            &shared.connections,
-            place,
-        ),
-    ) else {
+        &*connection,
+        shared.lapse,
+        shared.idle,
+        &shared.connections,
+        place,
+    );
+    let Ok(mut source) = OwnLines::new(alloc, ClientBytes::new(&client)) else {
         refuse(&connection);
         return;
     };
-    limit_idleness(&connection, shared.idle);
     shared
         .connections
         .enter(rt, place, session_seat.number(), other);
-    serve_connection(rt, alloc, shared, &connection, &mut source, session_seat);
+    serve_connection(
+        rt,
+        alloc,
+        shared,
+        &connection,
+        &client,
+        &mut source,
+        session_seat,
+    );
     shared.connections.leave(rt, place);
 }
 

@@ -1,7 +1,7 @@
 -- What a connection passes on: lines of the protocol alone.
-use Rattle.std.specs.Prelude.{◌≡◌, ◌⊎◌, ◌≤◌, ◌<◌, ◌+◌, ℕ, List, [], ◌∷◌, ◌++◌, length, take, ◌==◌, if◌then◌else◌}
+use Rattle.std.specs.Prelude.{◌≡◌, ◌⊎◌, ◌≤◌, ◌<◌, ◌+◌, ℕ, List, [], ◌∷◌, ◌++◌, length, take, ◌==◌, ◌||◌, if◌then◌else◌}
 use Rattle.std.specs.Prelude.{Bool, true, false, Option, Some, None, MatchOption}
-use Rattle.std.specs.Char.{is_ascii_uppercase}
+use Rattle.std.specs.Char.{is_ascii_graphic, is_ascii_whitespace}
 use Rattle.am_line_source.specs.SourceReads.{Took}
 use Rattle.am_serve_connections.specs.Http.{is_of_http}
 use Rattle.am_serve_connections.specs.declared.own_lines.OwnLines.{OwnLines}
@@ -26,10 +26,10 @@ line_behind line [] = line
 line_behind line (byte ∷ bytes) =
     if byte == 10 then line_behind [] bytes else line_behind (line ++ byte ∷ []) bytes
 
--- whether the first byte, where there is one, begins a line of the protocol: it is one of A to Z
+-- whether the first byte, where there is one, begins a line of text: it is one that is printed, or a blank
 abbrev pub begins_line : List ℕ → Bool
 begins_line [] = true
-begins_line (byte ∷ bytes) = is_ascii_uppercase byte
+begins_line (byte ∷ bytes) = is_ascii_graphic byte || is_ascii_whitespace byte
 
 -- Where bytes cease to be lines of the protocol: at the first of all, where that begins none of them; else where they
 -- end a line of HTTP.

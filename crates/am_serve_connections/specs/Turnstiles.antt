@@ -1,36 +1,92 @@
 -- A turnstile: who holds it, who waits at it, and who goes on.
-use Rattle.std.specs.Prelude.{ℕ, zero, suc, ◌+◌, ◌-◌, ◌==◌, min, nat_le, nat_lt, Bool, false, not, if◌then◌else◌, List}
-use Rattle.std.specs.Prelude.{◌∷◌, [], ◌++◌, drop, length, Option, Some, None, slice_get}
+use Rattle.std.specs.Prelude.{ℕ, zero, suc, ◌+◌, ◌-◌, ◌/◌, ◌%◌, ◌==◌, min, max, nat_le, nat_lt, Bool, true, false, not}
+use Rattle.std.specs.Prelude.{◌&&◌, if◌then◌else◌, List, ◌∷◌, [], ◌++◌, drop, length, Option, Some, None, slice_get}
 use Rattle.am_serve_connections.specs.declared.line.Holder.{Holder}
 use Rattle.am_serve_connections.specs.declared.line.Waiter.{Waiter}
-use Rattle.am_serve_connections.specs.declared.line.Wait.{Wait}
-use Rattle.am_serve_connections.specs.declared.line.Wait.TheVariants.{Over, InVain, For}
+use Rattle.am_serve_connections.specs.declared.line.Stage.{Stage}
+use Rattle.am_serve_connections.specs.declared.line.Stage.TheVariants.{KeepsOut, LetsIn, Holds}
+use Rattle.am_serve_connections.specs.declared.line.Asked.{Asked}
+use Rattle.am_serve_connections.specs.declared.line.Asked.TheVariants.{KeptBy, OthersFirst, Asks}
+use Rattle.am_serve_connections.specs.declared.line.Grant.{Grant}
+use Rattle.am_serve_connections.specs.declared.line.Grant.TheVariants as grant
 
--- whether who stands at this place has to wait: another holds
+-- where one begins that asks to hold
+abbrev pub first_stage : Stage
+first_stage = KeepsOut
+
+-- whether who comes is kept out: by one that holds, and by one that would, unless it lets others in meanwhile
+abbrev pub shuts : Stage → Bool
+shuts KeepsOut = true
+shuts LetsIn = false
+shuts (Holds until) = true
+
+abbrev pub is_shut : Option Holder → Bool
+is_shut None = false
+is_shut (Some holder) = shuts holder.stage
+
+-- the place that keeps them out
+abbrev pub shut_by : Option Holder → Option ℕ
+shut_by None = None
+shut_by (Some holder) = if shuts holder.stage then Some holder.place else None
+
+-- whether who stands at this place has to wait: another keeps it out
 abbrev pub is_kept : Option Holder → ℕ → Bool
 is_kept None place = false
-is_kept (Some holder) place = not (holder.place == place)
+is_kept (Some holder) place = not (holder.place == place) && shuts holder.stage
 
--- whether it holds that stands at this place
+-- whether it holds that stands at this place, or would
 abbrev pub is_holder : Option Holder → ℕ → Bool
 is_holder None place = false
 is_holder (Some holder) place = holder.place == place
 
--- the session that holds, where who stands at this place has to wait
-abbrev pub barred_by : Option Holder → ℕ → Option ℕ
-barred_by None place = None
-barred_by (Some holder) place = if holder.place == place then None else Some holder.session
+-- What becomes of one that asks to hold, and who holds or would then. Where another does it is told which. Where it
+-- holds itself that ends, and those that wait go on before it asks again.
+abbrev pub asked_free : List Waiter → Holder → Asked × Option Holder
+asked_free [] asking = (Asks, Some asking)
+asked_free (first ∷ others) asking = (OthersFirst, None)
 
--- who holds where this one would, and its time is to be told: it, unless another does
-abbrev pub holder_after : Option Holder → Holder → Holder
-holder_after None new = new
-holder_after (Some holder) new = if holder.place == new.place then new else holder
+abbrev pub asked_anew : Option Holder → List Waiter → Holder → Asked × Option Holder
+asked_anew None waiting asking = asked_free waiting asking
+asked_anew (Some holder) waiting asking =
+    if holder.place == asking.place then (OthersFirst, None) else (KeptBy holder.session, Some holder)
 
--- who holds once it was told until when it may that stands at this place
-abbrev pub granted : Option Holder → ℕ → ℕ → Option Holder
-granted None place until = None
-granted (Some holder) place until =
-    if holder.place == place then Some (record holder { until = Some until }) else Some holder
+-- for how long others are kept out at once where one asks to hold for so many microseconds: a tenth of these, and 50
+-- milliseconds at least
+abbrev pub stretch_of : ℕ → ℕ
+stretch_of micros = max (micros / 10) 50000
+
+-- how far one is at a time that asks to hold while another is inside: others are kept out for the first stretch and
+-- for the tenth, which is the last one where a stretch is a tenth of its time
+abbrev pub stage_at : Holder → ℕ → Stage
+stage_at holder now =
+    if ((now - holder.since) / stretch_of holder.micros) % 9 == 0 then KeepsOut else LetsIn
+
+-- when it has asked for as long as it may
+abbrev pub asking_end : Holder → ℕ
+asking_end holder = min 18446744073709551615 (holder.since + holder.micros)
+
+-- beside a session that is inside it asks on, until its time is over
+abbrev pub granted_beside : Holder → ℕ → ℕ → Grant × Option Holder
+granted_beside holder session now =
+    if nat_le (asking_end holder) now then (grant.InVain session, None)
+    else (grant.AsksOn (min 10000 (asking_end holder - now)), Some (record holder { stage = stage_at holder now }))
+
+-- Once nobody is inside it holds, from now on for as long as it asked, where others were kept out meanwhile. Where they
+-- were let in, they are kept out, and it looks once more.
+abbrev pub granted_at : Stage → Holder → Option ℕ → ℕ → Grant × Option Holder
+granted_at (Holds until) holder other now = (grant.Holds, Some holder)
+granted_at KeepsOut holder None now =
+    (grant.Holds, Some (record holder { stage = Holds (min 18446744073709551615 (now + holder.micros)) }))
+granted_at LetsIn holder None now = (grant.AsksOn 0, Some (record holder { stage = KeepsOut }))
+granted_at KeepsOut holder (Some session) now = granted_beside holder session now
+granted_at LetsIn holder (Some session) now = granted_beside holder session now
+
+-- what becomes of one that would hold at this place, by a session that is inside, where one is, and the time; and who
+-- holds or would then
+abbrev pub granted : Option Holder → ℕ → Option ℕ → ℕ → Grant × Option Holder
+granted None place other now = (grant.Gone, None)
+granted (Some holder) place other now =
+    if holder.place == place then granted_at holder.stage holder other now else (grant.Gone, Some holder)
 
 -- who holds once it doesn't that stands at this place
 abbrev pub released : Option Holder → ℕ → Option Holder
@@ -38,43 +94,39 @@ released None place = None
 released (Some holder) place = if holder.place == place then None else Some holder
 
 -- whether the time of who holds is over
-abbrev pub is_past : Option ℕ → ℕ → Bool
-is_past None now = false
-is_past (Some until) now = nat_le until now
+abbrev pub is_past : Stage → ℕ → Bool
+is_past KeepsOut now = false
+is_past LetsIn now = false
+is_past (Holds until) now = nat_le until now
 
 -- who holds at a time: nobody longer than it may
 abbrev pub held_at : Option Holder → ℕ → Option Holder
 held_at None now = None
-held_at (Some holder) now = if is_past holder.until now then None else Some holder
+held_at (Some holder) now = if is_past holder.stage now then None else Some holder
 
--- who goes on next: while nobody holds, who has waited longest
-abbrev pub next_waiter : Option Holder → List Waiter → Option Waiter
-next_waiter None waiting = slice_get waiting 0
-next_waiter (Some holder) waiting = None
+-- who goes on next: while nobody is kept out, who has waited longest
+abbrev pub next_waiter : Bool → List Waiter → Option Waiter
+next_waiter true waiting = None
+next_waiter false waiting = slice_get waiting 0
 
 -- who waits then
-abbrev pub waiting_after : Option Holder → List Waiter → List Waiter
-waiting_after None waiting = drop 1 waiting
-waiting_after (Some holder) waiting = waiting
+abbrev pub waiting_after : Bool → List Waiter → List Waiter
+waiting_after true waiting = waiting
+waiting_after false waiting = drop 1 waiting
 
 -- who waits where one more would: all that did, and it after them, unless 512 did
 abbrev pub joined_by : List Waiter → Waiter → List Waiter
 joined_by waiting waiter = if nat_lt (length waiting) 512 then waiting ++ waiter ∷ [] else waiting
 
--- How long who would hold waits, by a session that isn't done, if there is one, by the time and by when it gives up: it
--- waits no longer once all are done, and in vain once its time is over.
-abbrev pub wait_of : Option ℕ → ℕ → ℕ → Wait
-wait_of None now end = Over
-wait_of (Some session) now end = if nat_le end now then InVain session else For (end - now)
-
 -- how long one waits at most until it looks again: until the end of the hold, and no longer than a tenth of a second
-abbrev pub nap_until : Option ℕ → ℕ → ℕ
-nap_until None now = 100000
-nap_until (Some until) now = min 100000 (until - now)
+abbrev pub nap_at : Stage → ℕ → ℕ
+nap_at KeepsOut now = 100000
+nap_at LetsIn now = 0
+nap_at (Holds until) now = min 100000 (until - now)
 
 abbrev pub nap_of : Option Holder → ℕ → ℕ
 nap_of None now = 0
-nap_of (Some holder) now = nap_until holder.until now
+nap_of (Some holder) now = nap_at holder.stage now
 
 -- what stands in a word for a number, and which number by that: 0 stands for none
 abbrev pub mark_of : ℕ → ℕ

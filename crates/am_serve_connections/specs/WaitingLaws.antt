@@ -3,7 +3,6 @@ use Rattle.std.specs.Prelude.{◌≡◌, ◌⊎◌, ℕ, zero, suc, nat_lt, Bool
 use Rattle.std.specs.Prelude.{Option, Some, None, option_to_list, if◌then◌else◌}
 use Rattle.std.specs.declared.net.tcp.TcpStream.{TcpStream}
 use Rattle.am_serve_connections.specs.declared.waiting.Waiting.{Waiting}
-use Rattle.am_serve_connections.specs.declared.line.Holder.{Holder}
 use Rattle.am_serve_connections.specs.declared.line.Waiter.{Waiter}
 use Rattle.am_serve_connections.specs.Waits.{oldest_of, due_of, still_waiting, gone_of, kept_of}
 use Rattle.am_serve_connections.specs.Turnstiles as turnstile
@@ -80,10 +79,11 @@ abbrev pub NobodyWaitsBesideASeat : Type 0
 NobodyWaitsBesideASeat = (happenings : List Happening) → let acceptor = acceptor_after_all happenings empty_acceptor in
     (acceptor.free ≡ 0) ⊎ (acceptor.line ≡ [])
 
--- What happens at a turnstile: a session would wait there, or one is asked to go on, where somebody holds or nobody.
+-- What happens at a turnstile: a session would wait there, or one is asked to go on, where somebody is kept out or
+-- nobody.
 pub data Turn : Type 0 where
   Joins : Waiter → Turn
-  GoesOn : Option Holder → Turn
+  GoesOn : Bool → Turn
 
 -- those that were let in to wait, those that wait, and those that went on, each in their order
 pub record Turns : Type 0 where
@@ -100,10 +100,10 @@ turns_after (Joins waiter) t = record {
   waiting = turnstile.joined_by t.waiting waiter;
   went = t.went;
 }
-turns_after (GoesOn holder) t = record {
+turns_after (GoesOn is_shut) t = record {
   joined = t.joined;
-  waiting = turnstile.waiting_after holder t.waiting;
-  went = t.went ++ option_to_list (turnstile.next_waiter holder t.waiting);
+  waiting = turnstile.waiting_after is_shut t.waiting;
+  went = t.went ++ option_to_list (turnstile.next_waiter is_shut t.waiting);
 }
 
 abbrev pub turns_behind : List Turn → Turns → Turns

@@ -128,11 +128,12 @@ impl<'a> Acceptor<'a> {
     }
 
     /// While nobody waits at the acceptor: what came is accepted and waits, and what has waited for too long is turned
-    /// away, as all are after a stop. Before a stop a tenth of a second passes between two rounds of that.
-    pub(crate) fn receive<R: Clock>(&mut self, rt: &R, counters: &SessionCounters) {
+    /// away, as all are after a stop. Before a stop a tenth of a second passes between two rounds of that. How many
+    /// wait after a round.
+    pub(crate) fn receive<R: Clock>(&mut self, rt: &R, counters: &SessionCounters) -> usize {
         let is_stopped = self.is_stopped();
         if !is_stopped && !self.is_round_over(rt) {
-            return;
+            return 0;
         }
         self.admit_all(counters);
         for _ in 0..MOST_WAITING {
@@ -143,6 +144,7 @@ impl<'a> Acceptor<'a> {
         }
         self.waiting.end_round();
         self.round_ended_at = Instant::now(rt).ok();
+        self.waiting.len()
     }
 
     // Whether so much time has passed since the last round, or the clock doesn't tell.

@@ -1,12 +1,16 @@
 //! The connections that are open: which transaction each has, how long ago its last line came, and how it is cut.
 
 ghost use Rattle.std.specs.Prelude.{◌≡◌, Some, option_map, nat_eq, IfOk};
-ghost use Rattle.am_serve_connections.specs.Connections.{open_tx_of};
+ghost use Rattle.am_serve_connections.specs.Connections.{idle_of, longer_idle, open_tx_of};
 
 use crate::turnstile::{mark_of, number_in};
+use libc::net::{POLLERR, POLLHUP, POLLRDHUP, poll};
+use libc::types::pollfd;
 use std::alloc::{AllocError, Global};
 use std::marker::Model;
 use std::net::{Shutdown, TcpStream};
+use std::ops::Range;
+use std::os::fd::AsRawFd;
 use std::rt::Clock;
 use std::sync::atomic::{AtomicBool, AtomicU64, Ordering};
 use std::sync::{Arc, Mutex, Wait};
@@ -41,8 +45,47 @@ fn open_of(session: u64, mark: u64, heard_at: u64, now: u64) -> Option<OpenTrans
     })
 }
 
+/// A session that has no transaction active, and from which no line came for so many milliseconds.
+#[derive(Clone, Copy, PartialEq, Eq)]
+struct IdleSession {
+    place: usize,
+    millis: u64,
+}
+
+// The session of a place where it may make way, by what stands for its transaction, and for how many milliseconds no
+// line came: it has no transaction, and that is longer than the limit.
+fn idle_of(place: usize, mark: u64, millis: u64, limit: u64) -> Option<IdleSession>
+    ensures { result ≡ idle_of place mark millis limit }
+{
+    match number_in(mark) {
+        None if limit < millis => Some(IdleSession { place, millis }),
+        _ => None,
+    }
+}
+
+// Which of two was idle longer.
+fn longer_idle(one: Option<IdleSession>, other: Option<IdleSession>) -> Option<IdleSession>
+    ensures { result ≡ longer_idle one other }
+{
+    match (one, other) {
+        (Some(first), Some(second)) if first.millis < second.millis => Some(second),
+        (None, second) => second,
+        (first, _) => first,
+    }
+}
+
 pub(crate) fn millis_of(duration: Duration) -> u64 {
     u64::try_from(duration.as_millis()).unwrap_or(u64::MAX)
+}
+
+// Whether the other side has closed the connection, or its half, or it is lost.
+fn is_over(stream: &TcpStream) -> bool {
+    let mut asked = [pollfd {
+        fd: stream.as_raw_fd(),
+        events: POLLRDHUP,
+        revents: 0,
+    }];
+    poll(&mut asked, 0) > 0 && asked[0].revents & (POLLRDHUP | POLLHUP | POLLERR) != 0
 }
 
 /// A session that is served, and its connection.
@@ -74,8 +117,14 @@ struct Place {
     tx: AtomicU64,
     // When the last line came, in milliseconds.
     heard_at: AtomicU64,
+    // Whether another session ended the one that is there.
+    is_ended: AtomicBool,
     // Only rises: who waits until the session has left sleeps at a value of it.
     leaves: AtomicU64,
+    // Whether a session is there that wasn't ended for another.
+    is_taken: AtomicBool,
+    // Whether its session awaits its client: more bytes, or that it takes answers.
+    is_awaiting: AtomicBool,
 }
 
 impl Place {
@@ -84,7 +133,36 @@ impl Place {
             entry: Mutex::new(None),
             tx: AtomicU64::new(0),
             heard_at: AtomicU64::new(0),
+            is_ended: AtomicBool::new(false),
             leaves: AtomicU64::new(0),
+            is_taken: AtomicBool::new(false),
+            is_awaiting: AtomicBool::new(false),
+        }
+    }
+
+    // The session there, where it may make way for another.
+    fn idle(&self, place: usize, limit: u64, now: u64) -> Option<IdleSession> {
+        if !self.is_taken.load(Ordering::SeqCst) || !self.is_awaiting.load(Ordering::SeqCst) {
+            return None;
+        }
+        idle_of(
+            place,
+            self.tx.load(Ordering::SeqCst),
+            now.saturating_sub(self.heard_at.load(Ordering::SeqCst)),
+            limit,
+        )
+    }
+
+    // Cuts the connection, where the session there may still make way. Whether it may.
+    fn make_way<R: Wait>(&self, rt: &R, limit: u64, now: u64) -> bool {
+        let entry = self.entry.lock(rt);
+        match &*entry {
+            Some(here) if self.idle(0, limit, now).is_some() => {
+                self.is_taken.store(false, Ordering::SeqCst);
+                let _ = here.stream.shutdown(Shutdown::Both);
+                true
+            }
+            _ => false,
         }
     }
 
@@ -92,9 +170,19 @@ impl Place {
     fn cut<R: Wait>(&self, rt: &R, session: u64) -> Option<u64> {
         let entry = self.entry.lock(rt);
         match &*entry {
-            Some(here) if here.cut(session) => Some(self.leaves.load(Ordering::SeqCst)),
+            Some(here) if here.cut(session) => {
+                self.is_ended.store(true, Ordering::SeqCst);
+                Some(self.leaves.load(Ordering::SeqCst))
+            }
             _ => None,
         }
+    }
+
+    // Whether the session was ended, or nothing more comes of its client.
+    fn is_gone<R: Wait>(&self, rt: &R) -> bool {
+        let entry = self.entry.lock(rt);
+        let is_over = entry.as_ref().is_some_and(|here| is_over(&here.stream));
+        is_over || self.is_ended.load(Ordering::SeqCst)
     }
 
     // Returns once the place is left again after so many times, or a second later.
@@ -168,8 +256,8 @@ impl Connections {
         self.places.len()
     }
 
-    /// The session's connection is at this place now. Where all are cut, it is cut too.
-    pub fn enter<R: Wait>(
+    /// The session's connection is at this place now, which counts as its first line. Where all are cut, it is cut too.
+    pub fn enter<R: Wait + Clock>(
         &self,
         rt: &R,
         place: usize,
@@ -177,7 +265,11 @@ impl Connections {
         stream: Arc<TcpStream, Global>,
     ) {
         if let Some(here) = self.places.get(place) {
-            *here.entry.lock(rt) = Some(Entry { session, stream });
+            let mut entry = here.entry.lock(rt);
+            here.is_ended.store(false, Ordering::SeqCst);
+            *entry = Some(Entry { session, stream });
+            here.heard_at.store(self.now(rt), Ordering::SeqCst);
+            here.is_taken.store(true, Ordering::SeqCst);
         }
         if self.is_cut.load(Ordering::SeqCst) {
             self.cut_all(rt);
@@ -188,6 +280,8 @@ impl Connections {
     pub fn leave<R: Wait>(&self, rt: &R, place: usize) {
         if let Some(here) = self.places.get(place) {
             *here.entry.lock(rt) = None;
+            here.is_taken.store(false, Ordering::SeqCst);
+            here.is_awaiting.store(false, Ordering::SeqCst);
             here.leaves.fetch_add(1, Ordering::SeqCst);
             here.leaves.wake_all();
         }
@@ -200,10 +294,46 @@ impl Connections {
         }
     }
 
-    /// A line came at this place, at this moment.
-    pub(crate) fn hear(&self, place: usize, at: Option<Instant>) {
+    /// Whether another session ended the one at this place. None of its lines is taken then.
+    pub fn is_ended(&self, place: usize) -> bool {
+        self.places
+            .get(place)
+            .is_some_and(|here| here.is_ended.load(Ordering::SeqCst))
+    }
+
+    /// Whether the session at this place was ended, or nothing more comes of its client.
+    pub(crate) fn is_gone<R: Wait>(&self, rt: &R, place: usize) -> bool {
+        self.places.get(place).is_some_and(|here| here.is_gone(rt))
+    }
+
+    /// A line came at this place.
+    pub(crate) fn hear<R: Clock>(&self, rt: &R, place: usize) {
         if let Some(here) = self.places.get(place) {
-            here.heard_at.store(self.age_at(at), Ordering::SeqCst);
+            here.heard_at.store(self.now(rt), Ordering::SeqCst);
+        }
+    }
+
+    /// How many milliseconds ago the last line came at this place, as WHO tells it.
+    pub(crate) fn waited<R: Clock>(&self, rt: &R, place: usize) -> u64 {
+        let now = self.now(rt);
+        match self.places.get(place) {
+            Some(here) => now.saturating_sub(here.heard_at.load(Ordering::SeqCst)),
+            None => 0,
+        }
+    }
+
+    /// Whether the session at this place has a transaction active.
+    pub(crate) fn has_transaction(&self, place: usize) -> bool {
+        match self.places.get(place) {
+            Some(here) => number_in(here.tx.load(Ordering::SeqCst)).is_some(),
+            None => false,
+        }
+    }
+
+    /// Whether the session at this place awaits its client from now on.
+    pub(crate) fn set_awaiting(&self, place: usize, is_awaiting: bool) {
+        if let Some(here) = self.places.get(place) {
+            here.is_awaiting.store(is_awaiting, Ordering::SeqCst);
         }
     }
 
@@ -235,6 +365,27 @@ impl Connections {
             }
         }
         false
+    }
+
+    /// Of the sessions at these places ends the one from which no line came for longest, where that is more than so
+    /// many milliseconds: one that has no transaction active and awaits its client. Whether there is one.
+    pub(crate) fn end_idlest<R: Wait + Clock>(
+        &self,
+        rt: &R,
+        places: Range<usize>,
+        limit: u64,
+    ) -> bool {
+        let now = self.now(rt);
+        let mut idlest = None;
+        for place in places {
+            if let Some(here) = self.places.get(place) {
+                idlest = longer_idle(idlest, here.idle(place, limit, now));
+            }
+        }
+        match idlest.and_then(|idle| self.places.get(idle.place)) {
+            Some(here) => here.make_way(rt, limit, now),
+            None => false,
+        }
     }
 
     /// Cuts all connections, and those that come.

@@ -4,7 +4,8 @@
 //! - [`SharedState`]: acceptors at which threads wait for connections, those that are open ([`Connections`]), what
 //!   is counted, and workers' turns.
 //! - [`Turnstile`]: where sessions wait that have nothing begun: while one of them holds, and where 64 have begun.
-//! - [`ClientBytes`]: what comes from a connection, and how long that is waited for.
+//! - [`Client`]: the connection of a session's client, what waits to be sent there, and how long one waits for it.
+//! - [`ClientBytes`], [`AnswerWriter`]: what comes from a client, and what goes there.
 //! - [`OwnLines`]: a connection whose bytes are passed on as far as they are lines of the protocol.
 //! - [`Pacer`], [`Upkeep`]: when a worker may take its next turn, and what it does then; [`MergePacer`] gives turns for
 //!   answers.
@@ -12,6 +13,8 @@
 #![tactic(auto)]
 
 mod acceptor;
+mod answer_writer;
+mod client;
 mod client_bytes;
 mod connections;
 mod counting_sink;
@@ -29,8 +32,11 @@ mod tickets;
 mod turns;
 mod turnstile;
 mod unended_line;
+mod unsent;
 mod waiting;
 
+pub use answer_writer::AnswerWriter;
+pub use client::Client;
 pub use client_bytes::ClientBytes;
 pub use connections::Connections;
 pub use counting_sink::CountingSink;

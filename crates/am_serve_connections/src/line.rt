@@ -1,10 +1,12 @@
 //! Who holds a turnstile, and who waits at it.
 
-ghost use Rattle.std.specs.Prelude.{◌≡◌, ◌≤◌, [], Some, None, is_some, length, nat_lt, IfOk};
+ghost use Rattle.std.specs.Prelude.{◌≡◌, ◌≤◌, ◌<◌, [], None, length, nat_lt, IfOk};
 ghost use Rattle.std.specs.VecDeque.{deque_capacity, deque_len};
-ghost use Rattle.am_serve_connections.specs.Turnstiles.{granted, held_at, holder_after, is_holder, is_kept, joined_by};
-ghost use Rattle.am_serve_connections.specs.Turnstiles.{barred_by};
-ghost use Rattle.am_serve_connections.specs.Turnstiles.{waiting_after, nap_of, next_waiter, released, wait_of};
+ghost use Rattle.am_serve_connections.specs.Tickets.{without};
+ghost use Rattle.am_serve_connections.specs.Turnstiles.{asked_anew, asking_end, first_stage, granted, granted_at};
+ghost use Rattle.am_serve_connections.specs.Turnstiles.{granted_beside, held_at, is_holder, is_kept, is_shut};
+ghost use Rattle.am_serve_connections.specs.Turnstiles.{joined_by, nap_of, next_waiter, released, shut_by, shuts};
+ghost use Rattle.am_serve_connections.specs.Turnstiles.{stage_at, stretch_of, waiting_after};
 
 use std::alloc::{AllocError, Global};
 use std::collections::VecDeque;
@@ -13,15 +15,35 @@ use std::collections::VecDeque;
 const MOST_PLACES: usize = 512;
 
 /// So long one waits at most until it looks again, in microseconds.
-const NAP_MICROS: u64 = 100_000;
+pub(crate) const NAP_MICROS: u64 = 100_000;
 
-/// A session that holds, or will once no other has a transaction active.
+/// So long at most who would hold does, in microseconds.
+const ASKING_NAP_MICROS: u64 = 10_000;
+
+/// For so long at least others are kept out where one would hold, in microseconds.
+const LEAST_STRETCH: u64 = 50_000;
+
+/// How far one is that asked to hold.
+#[derive(Clone, Copy, PartialEq, Eq)]
+pub(crate) enum Stage {
+    /// It doesn't hold yet. Who comes is kept out, until those that are inside have gone.
+    KeepsOut,
+    /// It doesn't hold yet. Who comes is let in meanwhile: those that are inside take too long.
+    LetsIn,
+    /// It holds, up to that time in microseconds.
+    Holds(u64),
+}
+
+/// A session that holds, or would once no other is inside.
 #[derive(Clone, Copy, PartialEq, Eq)]
 pub(crate) struct Holder {
     pub(crate) place: usize,
     pub(crate) session: u64,
-    /// When its time is over, in microseconds, once that is told.
-    pub(crate) until: Option<u64>,
+    /// When it asked, in microseconds.
+    pub(crate) since: u64,
+    /// For so many microseconds at most it asks, and then holds.
+    pub(crate) micros: u64,
+    pub(crate) stage: Stage,
 }
 
 /// A session that waits for its turn.
@@ -31,26 +53,121 @@ pub(crate) struct Waiter {
     pub(crate) session: u64,
 }
 
-/// How long who would hold waits.
+/// What becomes of a session that asks to hold.
 #[derive(Clone, Copy, PartialEq, Eq)]
-pub(crate) enum Wait {
-    /// No longer: it holds.
-    Over,
-    /// No longer: this session has a transaction that didn't end in time.
-    InVain(u64),
-    /// So many microseconds at most.
-    For(u64),
+pub(crate) enum Asked {
+    /// It doesn't: this session holds, or asked before.
+    KeptBy(u64),
+    /// Nobody holds any more. Those that wait go on before it may ask.
+    OthersFirst,
+    /// It is the one that would hold.
+    Asks,
 }
 
-/// How long who would hold waits, by a session that has a transaction, where one has, by the time, and by when it
-/// gives up.
-pub(crate) fn wait_for(other: Option<u64>, now: u64, end: u64) -> Wait
-    ensures { result ≡ wait_of other now end }
+/// What becomes of a session that would hold.
+#[derive(Clone, Copy, PartialEq, Eq)]
+pub(crate) enum Grant {
+    /// It holds.
+    Holds,
+    /// It would no more: this session is inside, and its time is over.
+    InVain(u64),
+    /// It looks again after so many microseconds at most.
+    AsksOn(u64),
+    /// It was told before that it doesn't hold.
+    Gone,
+}
+
+// For how many microseconds others are kept out at once where one asks to hold for so many.
+fn stretch_of(micros: u64) -> u64
+    ensures stretch { result ≡ stretch_of micros }
+    ensures positive { 0 < result }
 {
-    match other {
-        None => Wait::Over,
-        Some(session) if end <= now => Wait::InVain(session),
-        Some(_) => Wait::For(end - now),
+    (micros / 10).max(LEAST_STRETCH)
+}
+
+impl Holder {
+    /// Who asks to hold from now on.
+    pub(crate) fn new(place: usize, session: u64, since: u64, micros: u64) -> Holder
+        ensures { result ≡ record {
+          place = place;
+          session = session;
+          since = since;
+          micros = micros;
+          stage = first_stage;
+        } }
+    {
+        Holder {
+            place,
+            session,
+            since,
+            micros,
+            stage: Stage::KeepsOut,
+        }
+    }
+
+    // When it has asked for as long as it may.
+    fn end(&self) -> u64
+        ensures { result ≡ asking_end self.now }
+    {
+        self.since.saturating_add(self.micros)
+    }
+
+    // Whether who comes is kept out.
+    fn shuts(&self) -> bool
+        ensures { result ≡ shuts self.now.stage }
+    {
+        match self.stage {
+            Stage::KeepsOut | Stage::Holds(_) => true,
+            Stage::LetsIn => false,
+        }
+    }
+
+    // How far it is at a time at which another is inside: others are kept out for the first stretch and the tenth.
+    fn stage_at(&self, now: u64) -> Stage
+        ensures { result ≡ stage_at self.now now }
+    {
+        let stretches = now.saturating_sub(self.since) / stretch_of(self.micros);
+        if stretches.is_multiple_of(9) {
+            Stage::KeepsOut
+        } else {
+            Stage::LetsIn
+        }
+    }
+
+    // What becomes of it beside a session that is inside, and who would hold then.
+    fn granted_beside(self, session: u64, now: u64) -> (Grant, Option<Holder>)
+        ensures { result ≡ granted_beside self session now }
+    {
+        let end = self.end();
+        if end <= now {
+            return (Grant::InVain(session), None);
+        }
+        let stage = self.stage_at(now);
+        let nap = (end - now).min(ASKING_NAP_MICROS);
+        (Grant::AsksOn(nap), Some(Holder { stage, ..self }))
+    }
+
+    // What becomes of it by a session that is inside, where one is, and who holds or would then.
+    fn granted(self, other: Option<u64>, now: u64) -> (Grant, Option<Holder>)
+        ensures { result ≡ granted_at self.stage self other now }
+    {
+        match self.stage {
+            Stage::Holds(_) => (Grant::Holds, Some(self)),
+            Stage::KeepsOut => match other {
+                Some(session) => self.granted_beside(session, now),
+                None => {
+                    let stage = Stage::Holds(now.saturating_add(self.micros));
+                    (Grant::Holds, Some(Holder { stage, ..self }))
+                }
+            },
+            Stage::LetsIn => match other {
+                Some(session) => self.granted_beside(session, now),
+                None => {
+                    let stage = Stage::KeepsOut;
+                    (Grant::AsksOn(0), Some(Holder { stage, ..self }))
+                }
+            },
+        }
     }
 }
 
@@ -75,59 +192,75 @@ impl Line {
         })
     }
 
-    /// Whether somebody holds.
-    pub(crate) fn is_held(&self) -> bool
-        ensures { result ≡ is_some self.now.holder }
+    /// Whether who comes is kept out.
+    pub(crate) fn is_shut(&self) -> bool
+        ensures { result ≡ is_shut self.now.holder }
     {
-        self.holder.is_some()
+        self.holder.is_some_and(|holder| holder.shuts())
+    }
+
+    /// The place that keeps those out that come, where one does.
+    pub(crate) fn shut_by(&self) -> Option<usize>
+        ensures { result ≡ shut_by self.now.holder }
+    {
+        let holder = self.holder?;
+        if holder.shuts() {
+            Some(holder.place)
+        } else {
+            None
+        }
     }
 
     /// Whether who stands at this place has to wait.
     pub(crate) fn is_kept(&self, place: usize) -> bool
         ensures { result ≡ is_kept self.now.holder place }
     {
-        self.holder.is_some_and(|holder| holder.place != place)
+        self.holder
+            .is_some_and(|holder| holder.place != place && holder.shuts())
     }
 
-    /// Whether it holds that stands at this place.
+    /// Whether it holds that stands at this place, or would.
     pub(crate) fn is_holder(&self, place: usize) -> bool
         ensures { result ≡ is_holder self.now.holder place }
     {
         self.holder.is_some_and(|holder| holder.place == place)
     }
 
-    /// The session is to hold, unless another does: then it is told which.
-    pub(crate) fn hold(&mut self, place: usize, session: u64) -> Option<u64>
-        ensures kept { result ≡ barred_by self.old.holder place }
-        ensures holder { self.new.holder ≡ Some (holder_after self.old.holder
-            (record { place = place; session = session; until = None })) }
+    /// A session asks to hold, from its line on. Where another does it is told which. Where it holds itself that ends,
+    /// and while anybody waits these go on first, and it asks again.
+    pub(crate) fn hold_anew(&mut self, asking: Holder) -> Asked
+        ensures asked { result ≡ (asked_anew self.old.holder self.old.waiting.items asking).0 }
+        ensures holder { self.new.holder ≡ (asked_anew self.old.holder self.old.waiting.items asking).1 }
         ensures same { self.new.waiting ≡ self.old.waiting }
     {
         match self.holder {
-            Some(other) if other.place != place => Some(other.session),
+            Some(other) if other.place != asking.place => Asked::KeptBy(other.session),
+            None if self.waiting.is_empty() => {
+                self.holder = Some(asking);
+                Asked::Asks
+            }
             _ => {
-                self.holder = Some(Holder {
-                    place,
-                    session,
-                    until: None,
-                });
-                None
+                self.holder = None;
+                Asked::OthersFirst
             }
         }
     }
 
-    /// Who holds at this place may until that time. Whether one does.
-    pub(crate) fn grant(&mut self, place: usize, until: u64) -> bool
-        ensures holds { result ≡ is_holder self.old.holder place }
-        ensures holder { self.new.holder ≡ granted self.old.holder place until }
+    /// Whether who would hold at this place does from now on, by a session that is inside, where one is. While one is,
+    /// others are kept out for the first tenth of its time and for the last, and let in between. It holds only once
+    /// nobody was inside while others were kept out.
+    pub(crate) fn grant(&mut self, place: usize, other: Option<u64>, now: u64) -> Grant
+        ensures granted { result ≡ (granted self.old.holder place other now).0 }
+        ensures holder { self.new.holder ≡ (granted self.old.holder place other now).1 }
         ensures same { self.new.waiting ≡ self.old.waiting }
     {
-        match &mut self.holder {
+        match self.holder {
             Some(holder) if holder.place == place => {
-                holder.until = Some(until);
-                true
+                let (grant, after) = holder.granted(other, now);
+                self.holder = after;
+                grant
             }
-            _ => false,
+            _ => Grant::Gone,
         }
     }
 
@@ -154,8 +287,13 @@ impl Line {
         ensures holder { self.new.holder ≡ held_at self.old.holder now }
         ensures same { self.new.waiting ≡ self.old.waiting }
     {
-        if let Some(holder) = self.holder
-            && holder.until.is_some_and(|until| until <= now)
+        if let Some(
+            Holder {
+                stage: Stage::Holds(until),
+                ..
+            },
+        ) = self.holder
+            && until <= now
         {
             self.holder = None;
         }
@@ -174,16 +312,24 @@ impl Line {
         true
     }
 
-    /// Who goes on: while nobody holds, who has waited longest, and waits no more.
-    pub(crate) fn next(&mut self) -> Option<Waiter>
-        ensures next { result ≡ next_waiter self.old.holder self.old.waiting.items }
-        ensures left { self.new.waiting.items ≡ waiting_after self.old.holder self.old.waiting.items }
+    /// Who stands at this place waits no more.
+    pub(crate) fn leave(&mut self, place: usize)
+        ensures left { self.new.waiting.items ≡ without place self.old.waiting.items }
         ensures same { self.new.holder ≡ self.old.holder }
     {
-        match self.holder {
-            Some(_) => None,
-            None => self.waiting.pop_front(),
+        self.waiting.retain(|waiter| waiter.place != place);
+    }
+
+    /// Who goes on: while nobody is kept out, who has waited longest, and waits no more.
+    pub(crate) fn next(&mut self) -> Option<Waiter>
+        ensures next { result ≡ next_waiter (is_shut self.old.holder) self.old.waiting.items }
+        ensures left { self.new.waiting.items ≡ waiting_after (is_shut self.old.holder) self.old.waiting.items }
+        ensures same { self.new.holder ≡ self.old.holder }
+    {
+        if self.is_shut() {
+            return None;
         }
+        self.waiting.pop_front()
     }
 
     /// How many microseconds one that waits sleeps until it looks again.
@@ -192,9 +338,10 @@ impl Line {
     {
         match self.holder {
             None => 0,
-            Some(holder) => match holder.until {
-                None => NAP_MICROS,
-                Some(until) => until.saturating_sub(now).min(NAP_MICROS),
+            Some(holder) => match holder.stage {
+                Stage::LetsIn => 0,
+                Stage::KeepsOut => NAP_MICROS,
+                Stage::Holds(until) => until.saturating_sub(now).min(NAP_MICROS),
             },
         }
     }

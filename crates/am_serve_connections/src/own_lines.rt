@@ -65,12 +65,12 @@ fn http_end(line: &mut UnendedLine, bytes: &[u8]) -> Option<usize>
     None
 }
 
-// Whether the first byte, where there is one, begins a line of the protocol.
+// Whether the first byte, where there is one, begins a line of text: it is printed, or is a blank.
 fn begins_line(bytes: &[u8]) -> bool
     ensures { result ≡ begins_line bytes.now }
 {
     match bytes.split_first() {
-        Some((byte, _)) => byte.is_ascii_uppercase(),
+        Some((byte, _)) => byte.is_ascii_graphic() || byte.is_ascii_whitespace(),
         None => true,
     }
 }

@@ -3,13 +3,14 @@
 ghost use Rattle.std.specs.Prelude.{◌≡◌, ◌≤◌, ◌*◌, nat_le, is_some, if◌then◌else◌, IfOk, MatchOption};
 
 use crate::acceptor::Acceptor;
-use crate::connections::Connections;
+use crate::connections::{Connections, millis_of};
 use crate::endpoint::Endpoint;
 use crate::lifetime::Lifetime;
 use crate::pacer::MergePacer;
 use crate::session_counters::SessionCounters;
 use crate::turnstile::Turnstile;
 use std::alloc::{AllocError, Global};
+use std::ops::Range;
 use std::rt::Clock;
 use std::sync::atomic::{AtomicBool, Ordering};
 use std::sync::{Mutex, Wait};
@@ -44,6 +45,8 @@ pub struct Limits {
     pub idle: Option<Duration>,
     /// How long a transaction may be active while no line of its session comes, where that is limited.
     pub lapse: Option<Duration>,
+    /// How long a session without a transaction may be idle while others want its seat, where that is limited.
+    pub idle_seat: Option<Duration>,
     /// For how many milliseconds at most a session may hold.
     pub hold: u64,
 }
@@ -69,6 +72,8 @@ pub struct SharedState<'a> {
     pub idle: Option<Duration>,
     /// How long a transaction may be active while no line of its session comes, where that is limited.
     pub lapse: Option<Duration>,
+    /// How long a session without a transaction may be idle while others want its seat, where that is limited.
+    pub idle_seat: Option<Duration>,
     is_stopped: &'a AtomicBool,
     all_ended: AtomicBool,
 }
@@ -80,11 +85,24 @@ fn is_behind(seats: usize, place: usize) -> bool
     place >= seats
 }
 
-// Where a thread waits at the acceptor a seat is free, and nothing is done.
-fn receive_at<R: Clock>(rt: &R, acceptor: &Mutex<Acceptor<'_>>, counters: &SessionCounters) {
-    if let Some(mut held) = acceptor.try_lock() {
-        held.receive(rt, counters);
+// Where a thread waits at the acceptor a seat is free, and nothing is done. How many wait there for a seat.
+fn receive_at<R: Clock>(
+    rt: &R,
+    acceptor: &Mutex<Acceptor<'_>>,
+    counters: &SessionCounters,
+) -> usize {
+    match acceptor.try_lock() {
+        Some(mut held) => held.receive(rt, counters),
+        None => 0,
     }
+}
+
+// The places of the seats at the second endpoint or the first, which has so many of them all.
+fn places_at(seats: usize, all: usize, is_second: bool) -> Range<usize>
+    ensures { (result.start ≡ (if is_second then seats else 0)) ×
+        (result.end ≡ (if is_second then all else seats)) }
+{
+    if is_second { seats..all } else { 0..seats }
 }
 
 impl<'a> SharedState<'a> {
@@ -105,6 +123,7 @@ impl<'a> SharedState<'a> {
         ensures lifetime { IfOk result (λ shared. shared.lifetime ≡ lifetime) }
         ensures idle { IfOk result (λ shared. shared.idle ≡ limits.idle) }
         ensures lapse { IfOk result (λ shared. shared.lapse ≡ limits.lapse) }
+        ensures idle_seat { IfOk result (λ shared. shared.idle_seat ≡ limits.idle_seat) }
         ensures hold { IfOk result (λ shared. shared.turnstile ≡ limits.hold) }
         ensures seats { IfOk result (λ shared. shared.seats ≡ sessions) }
         ensures places { IfOk result (λ shared. shared.connections ≡
@@ -129,6 +148,7 @@ impl<'a> SharedState<'a> {
             lifetime,
             idle: limits.idle,
             lapse: limits.lapse,
+            idle_seat: limits.idle_seat,
             is_stopped,
             all_ended: AtomicBool::new(false),
         })
@@ -146,15 +166,30 @@ impl<'a> SharedState<'a> {
     }
 
     /// In a server that stays: lets connections wait at the endpoints where no seat is free, for most of a second, and
-    /// turns away those that have waited for so long, or any after a stop. A thread that often asks for it has it done
-    /// ten times a second.
-    pub fn receive<R: Clock>(&self, rt: &R) {
+    /// turns away those that have waited for so long, or any after a stop. For each that waits a session there is ended
+    /// that was idle for too long. A thread that often asks for it has it done ten times a second.
+    pub fn receive<R: Wait + Clock>(&self, rt: &R) {
         if !self.lifetime.stays() {
             return;
         }
-        receive_at(rt, &self.first, &self.session_counters);
+        let waiting = receive_at(rt, &self.first, &self.session_counters);
+        self.make_way(rt, waiting, false);
         if let Some(second) = &self.second {
-            receive_at(rt, second, &self.session_counters);
+            let waiting = receive_at(rt, second, &self.session_counters);
+            self.make_way(rt, waiting, true);
+        }
+    }
+
+    // At an endpoint ends so many sessions at most that were idle for too long, those first that were so longest.
+    fn make_way<R: Wait + Clock>(&self, rt: &R, waiting: usize, is_second: bool) {
+        let Some(limit) = self.idle_seat else {
+            return;
+        };
+        for _ in 0..waiting {
+            let places = places_at(self.seats, self.connections.count(), is_second);
+            if !self.connections.end_idlest(rt, places, millis_of(limit)) {
+                return;
+            }
         }
     }
 

@@ -4,7 +4,8 @@ ghost use Rattle.std.specs.Prelude.{◌≡◌, ◌≢◌, ◌<◌, ◌≤◌, If
 ghost use Rattle.am_serve_connections.specs.declared.turnstile.HoldReply.{HoldReply};
 ghost use Rattle.am_serve_connections.specs.Turnstiles.{mark_of, mark_number};
 
-use crate::line::{Line, Wait as Waits, Waiter, wait_for};
+use crate::connections::Connections;
+use crate::line::{Asked, Grant, Holder, Line, NAP_MICROS, Waiter};
 use crate::tickets::{PATIENCE_MICROS, TicketLine, Tickets, patience_end, rest_of};
 use std::alloc::{AllocError, Global};
 use std::marker::Model;
@@ -80,6 +81,9 @@ struct Lines {
 /// Who would hold says so first, and then looks who is inside. Who goes in says so first, and then looks who holds. So
 /// of two that come together at least one sees the other.
 ///
+/// Where others are inside for long, who would hold keeps those that come out for a part of its time alone, and lets
+/// them in between. A wait ends with its session: who waits looks every tenth of a second whether that was ended.
+///
 /// The turn comes first, and then the ticket. A session that waits for a ticket is outside, so it keeps nobody from
 /// holding, and is inside again as it gets one. No ticket is given while anybody holds. So all are free for who holds,
 /// once no other is inside.
@@ -88,7 +92,7 @@ pub struct Turnstile {
     places: Vec<Place>,
     lines: Mutex<Lines>,
     tickets: Tickets,
-    // The place that holds, and 1, or 0: as in the line, for those that only look.
+    // The place that keeps others out, and 1, or 0: as in the line, for those that only look.
     held_at: AtomicU64,
     is_open: AtomicBool,
     // For so many milliseconds one may hold.
@@ -140,15 +144,19 @@ impl Turnstile {
     }
 
     /// Returns once the session at this place has its turn: while no other holds, after those that waited before it.
-    pub fn await_turn<R: Wait + Clock>(&self, rt: &R, place: usize, session: u64) {
+    /// Where the session was ended meanwhile it waits no longer.
+    pub fn await_turn<R: Wait + Clock>(
+        &self,
+        rt: &R,
+        place: usize,
+        session: u64,
+        connections: &Connections,
+    ) {
         let Some(here) = self.places.get(place) else {
             return;
         };
-        here.inside.store(mark_of(session), Ordering::SeqCst);
-        if self.held_at.load(Ordering::SeqCst) == 0 {
-            return;
-        }
-        if self.enter_or_join(rt, here, Waiter { place, session }) {
+        let waiter = Waiter { place, session };
+        if self.may_go_in(here, session) || self.enter_or_join(rt, here, waiter) {
             return;
         }
         for _ in rt.forever() {
@@ -156,9 +164,19 @@ impl Turnstile {
             if here.inside.load(Ordering::SeqCst) != 0 {
                 return;
             }
+            if connections.is_ended(place) {
+                self.leave(rt, place);
+                return;
+            }
             let nap = self.nap(rt);
             here.sleep(rt, calls, nap);
         }
+    }
+
+    // Says that the session is inside, and looks whether it may stay there at once.
+    fn may_go_in(&self, here: &Place, session: u64) -> bool {
+        here.inside.store(mark_of(session), Ordering::SeqCst);
+        self.held_at.load(Ordering::SeqCst) == 0
     }
 
     // Whether who is inside may stay there. Else it is outside again, and waits in the line.
@@ -173,6 +191,11 @@ impl Turnstile {
         false
     }
 
+    // Who stands at this place waits for its turn no more.
+    fn leave<R: Wait>(&self, rt: &R, place: usize) {
+        self.lines.lock(rt).turns.leave(place);
+    }
+
     // How many microseconds one that waits sleeps. A hold whose time is over ends here.
     fn nap<R: Wait + Clock>(&self, rt: &R) -> u64 {
         let now = self.now(rt);
@@ -184,8 +207,14 @@ impl Turnstile {
 
     /// Returns once the session at this place, which has its turn, may begin a transaction: once it has a ticket, as it
     /// has at once where fewer than 64 are taken and nobody waits. It waits after those that came before it, for a
-    /// second at most in which nobody holds, and then takes one too many.
-    pub fn await_ticket<R: Wait + Clock>(&self, rt: &R, place: usize, session: u64) {
+    /// second at most in which nobody holds, and then takes one too many, as it does where the session was ended.
+    pub fn await_ticket<R: Wait + Clock>(
+        &self,
+        rt: &R,
+        place: usize,
+        session: u64,
+        connections: &Connections,
+    ) {
         let Some(here) = self.places.get(place) else {
             return;
         };
@@ -197,10 +226,11 @@ impl Turnstile {
         let mut end = self.now(rt).saturating_add(PATIENCE_MICROS);
         for _ in rt.forever() {
             let calls = here.calls.load(Ordering::SeqCst);
-            let Some(nap) = self.ticket_nap(rt, here, waiter, &mut end) else {
+            let gives_up = connections.is_ended(place) || self.is_open.load(Ordering::SeqCst);
+            let Some(nap) = self.ticket_nap(rt, here, waiter, gives_up, &mut end) else {
                 return;
             };
-            here.sleep(rt, calls, nap);
+            here.sleep(rt, calls, nap.min(NAP_MICROS));
         }
     }
 
@@ -225,6 +255,7 @@ impl Turnstile {
         rt: &R,
         here: &Place,
         waiter: Waiter,
+        gives_up: bool,
         end: &mut u64,
     ) -> Option<u64> {
         let now = self.now(rt);
@@ -234,12 +265,10 @@ impl Turnstile {
         if here.inside.load(Ordering::SeqCst) != 0 {
             return None;
         }
-        let is_held = lines.turns.is_held();
+        let is_held = lines.turns.is_shut();
         *end = patience_end(is_held, now, *end);
         match rest_of(now, *end) {
-            Some(rest) if !self.is_open.load(Ordering::SeqCst) => {
-                Some(if is_held { lines.turns.nap(now) } else { rest })
-            }
+            Some(rest) if !gives_up => Some(if is_held { lines.turns.nap(now) } else { rest }),
             _ => {
                 lines.tickets.leave(waiter.place);
                 self.tickets.count(&lines.tickets);
@@ -284,13 +313,15 @@ impl Turnstile {
     }
 
     /// Has the session at this place hold for so many milliseconds, as soon as no other is inside. It isn't inside
-    /// itself. Where it holds already that ends first, and those that wait go on before.
+    /// itself. Where it holds already that ends first, and those that wait go on before. Where its client is gone, or
+    /// sends no more, it gives way.
     pub fn hold<R: Wait + Clock>(
         &self,
         rt: &R,
         place: usize,
         session: u64,
         millis: u64,
+        connections: &Connections,
     ) -> HoldReply
         ensures long { self.now < millis → result ≡ HoldReply.TooLong }
         ensures short { millis ≤ self.now → result ≢ HoldReply.TooLong }
@@ -302,80 +333,90 @@ impl Turnstile {
             return HoldReply::KeptBy(session);
         };
         let micros = millis.saturating_mul(MICROS_A_MILLI);
-        if let Some(other) = self.begin_hold(rt, place, session) {
-            return HoldReply::KeptBy(other);
+        match self.begin_hold(rt, place, session, micros) {
+            Some(other) => HoldReply::KeptBy(other),
+            None => self.await_hold(rt, here, Waiter { place, session }, connections),
         }
-        self.await_hold(rt, here, Waiter { place, session }, micros)
     }
 
-    // The session is to hold, unless another does, which is told.
-    fn begin_hold<R: Wait + Clock>(&self, rt: &R, place: usize, session: u64) -> Option<u64> {
+    // The session is to hold, from its line on, unless another does, which is told. Those that waited go on before.
+    fn begin_hold<R: Wait + Clock>(
+        &self,
+        rt: &R,
+        place: usize,
+        session: u64,
+        micros: u64,
+    ) -> Option<u64> {
         let mut lines = self.lines.lock(rt);
-        lines.turns.look(self.now(rt));
-        lines.turns.release(place);
+        let now = self.now(rt);
+        lines.turns.look(now);
         self.let_go_on(&mut lines);
-        if self.is_open.load(Ordering::SeqCst) {
-            return Some(session);
+        // (where it held itself, and others waited, these are gone after the first time)
+        for _ in 0..2 {
+            if self.is_open.load(Ordering::SeqCst) {
+                return Some(session);
+            }
+            let asked = lines
+                .turns
+                .hold_anew(Holder::new(place, session, now, micros));
+            self.let_go_on(&mut lines);
+            match asked {
+                Asked::KeptBy(other) => return Some(other),
+                Asked::Asks => return None,
+                Asked::OthersFirst => {}
+            }
         }
-        let other = lines.turns.hold(place, session);
-        if other.is_none() {
-            self.held_at.store(mark_of(place as u64), Ordering::SeqCst);
-        }
-        other
+        Some(session)
     }
 
-    // Waits until nobody else is inside, for so long at most, and then holds for as long.
+    // Waits until nobody else is inside, for as long at most as the session asks, and then holds for as long.
     fn await_hold<R: Wait + Clock>(
         &self,
         rt: &R,
         here: &Place,
         holder: Waiter,
-        micros: u64,
+        connections: &Connections,
     ) -> HoldReply
         ensures { result ≢ HoldReply.TooLong }
     {
-        let end = self.now(rt).saturating_add(micros);
         for _ in rt.forever() {
             let calls = here.calls.load(Ordering::SeqCst);
-            let other = self.other_inside(holder.place);
-            let end = if self.is_open.load(Ordering::SeqCst) {
-                0
-            } else {
-                end
-            };
-            match wait_for(other, self.now(rt), end) {
-                Waits::Over => return self.grant(rt, holder, micros),
-                Waits::InVain(session) => {
-                    self.end_hold(rt, holder.place);
-                    return HoldReply::KeptBy(session);
+            match self.grant(rt, holder.place) {
+                Grant::Holds => return HoldReply::Holds,
+                Grant::InVain(session) => return HoldReply::KeptBy(session),
+                Grant::Gone => return HoldReply::KeptBy(holder.session),
+                Grant::AsksOn(_) if connections.is_gone(rt, holder.place) => {
+                    let other = self.other_inside(holder.place);
+                    self.give_way(rt, holder.place);
+                    return HoldReply::KeptBy(other.unwrap_or(holder.session));
                 }
-                Waits::For(rest) => here.sleep(rt, calls, rest),
+                Grant::AsksOn(rest) => here.sleep(rt, calls, rest),
             }
         }
         unreachable!()
     }
 
-    // The session holds from now on, unless the turnstile was opened meanwhile.
-    fn grant<R: Wait + Clock>(&self, rt: &R, holder: Waiter, micros: u64) -> HoldReply
-        ensures { result ≢ HoldReply.TooLong }
-    {
+    // Whether who would hold at this place does. It looks who is inside, once those are kept out that come.
+    fn grant<R: Wait + Clock>(&self, rt: &R, place: usize) -> Grant {
+        let other = self.other_inside(place);
         let mut lines = self.lines.lock(rt);
-        let until = self.now(rt).saturating_add(micros);
-        if lines.turns.grant(holder.place, until) {
-            HoldReply::Holds
-        } else {
-            HoldReply::KeptBy(holder.session)
-        }
+        let grant = lines.turns.grant(place, other, self.now(rt));
+        self.let_go_on(&mut lines);
+        grant
+    }
+
+    // Who holds at this place, or would, does no more.
+    fn give_way<R: Wait>(&self, rt: &R, place: usize) {
+        let mut lines = self.lines.lock(rt);
+        lines.turns.release(place);
+        self.let_go_on(&mut lines);
     }
 
     /// Where the session at this place holds, it does no more.
     pub fn end_hold<R: Wait>(&self, rt: &R, place: usize) {
-        if self.held_at.load(Ordering::SeqCst) != mark_of(place as u64) {
-            return;
+        if self.held_at.load(Ordering::SeqCst) == mark_of(place as u64) {
+            self.give_way(rt, place);
         }
-        let mut lines = self.lines.lock(rt);
-        lines.turns.release(place);
-        self.let_go_on(&mut lines);
     }
 
     /// Nobody holds any more, and nobody will: sessions that wait here end as others do.
@@ -389,13 +430,15 @@ impl Turnstile {
         }
     }
 
-    // Lets those that wait go on, in the order in which they came, while nobody holds. They are inside before anybody
-    // can hold again.
+    // Says who keeps others out. While nobody does, lets those that wait go on, in the order in which they came: they
+    // are inside before anybody can hold again.
     fn let_go_on(&self, lines: &mut Lines) {
-        let is_held = lines.turns.is_held();
-        if !is_held {
-            self.held_at.store(0, Ordering::SeqCst);
-        }
+        let shut_by = lines.turns.shut_by();
+        self.held_at.store(
+            shut_by.map_or(0, |place| mark_of(place as u64)),
+            Ordering::SeqCst,
+        );
+        let is_held = shut_by.is_some();
         for _ in 0..self.places.len() {
             let Some(waiter) = self.tickets.take_for_next(&mut lines.tickets, is_held) else {
                 break;

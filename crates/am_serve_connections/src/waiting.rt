@@ -1,6 +1,6 @@
 //! Connections that wait for a seat.
 
-ghost use Rattle.std.specs.Prelude.{◌≡◌, ◌≤◌, ◌+◌, ◌++◌, ◌∷◌, [], drop, min, IfOk};
+ghost use Rattle.std.specs.Prelude.{◌≡◌, ◌≤◌, ◌+◌, ◌++◌, ◌∷◌, [], drop, length, min, IfOk};
 ghost use Rattle.std.specs.VecDeque.{deque_capacity, deque_len};
 ghost use Rattle.am_serve_connections.specs.Waits.{due_of, gone_of, waits_no_longer, kept_of, still_waiting, oldest_of};
 
@@ -49,6 +49,13 @@ impl WaitingRoom {
     {
         let line = VecDeque::with_capacity(alloc, MOST_WAITING)?;
         Ok(WaitingRoom { line, round: 0 })
+    }
+
+    /// How many wait.
+    pub(crate) fn len(&self) -> usize
+        ensures { result ≡ length self.now.line.items }
+    {
+        self.line.len()
     }
 
     /// The connection that has waited longest, which waits no more.

@@ -1,6 +1,7 @@
 -- A session's seats, and what it does with them.
-use Rattle.std.specs.Prelude.{◌≡◌, ◌≢◌, ◌≤◌, ◌==◌, ◌⊎◌, ℕ, List, ◌∷◌, [], ◌++◌, Bool, Option, max, map, filter, length}
-use Rattle.std.specs.Prelude.{MatchBool}
+use Rattle.std.specs.Prelude.{◌≡◌, ◌≢◌, ◌≤◌, ◌<◌, ◌==◌, ◌⊎◌, ℕ, List, ◌∷◌, [], ◌++◌, Bool, Option, max, map, filter}
+use Rattle.std.specs.Prelude.{MatchBool, length}
+use Rattle.am_record.specs.Limits.{max_runs}
 use Rattle.am_record.specs.declared.step.Step.{Step}
 use Rattle.am_record.specs.declared.step.Reply.{Reply}
 use Rattle.am_record.specs.declared.step.Reply.TheVariants.{Committed, Refused}
@@ -57,7 +58,8 @@ abbrev pub EndsOwn : SessionSeatState → ℕ → EndAnswer → Type 0
 EndsOwn p session answer = MatchBool (session == p.number) (answer ≡ EndsItself) (answer ≢ EndsItself)
 
 -- Who would hold may hear anything: that is for the turnstile. Who has a transaction active at other seats is for the
--- connections. When a transaction lapses is for the clock.
+-- connections. When a transaction lapses is for the clock. It does so only at a server that stays, which alone makes so
+-- many runs.
 abbrev pub seat_meaning : ℕ → BackendMeaning SessionSeatState
 seat_meaning most_runs = record {
   active = open_at;
@@ -66,7 +68,7 @@ seat_meaning most_runs = record {
   holds = λ p millis answer. Unit {0};
   tells = λ p told. Unit {0};
   ends = EndsOwn;
-  lapses = Unit {0};
+  lapses = max_runs < most_runs;
 }
 
 -- the number is drawn, unless 2 ^ 50 were

@@ -1,6 +1,9 @@
 //! Which seats of a latch are the sessions'.
 
-ghost use Rattle.std.specs.Prelude.{◌≡◌, ◌≤◌, ◌+◌, ◌++◌, IfOk, All, length, vec_len, vec_capacity};
+ghost use Rattle.std.specs.Prelude.{◌≡◌, ◌≤◌, ◌<◌, ◌+◌, ◌++◌, IfOk, All, length, true, vec_len};
+ghost use Rattle.std.specs.Prelude.{vec_capacity};
+ghost use Rattle.am_record.specs.Limits.{max_runs};
+ghost use Rattle.am_serve_connections.specs.Lifetimes.{stays};
 ghost use Rattle.am_serve_seat.specs.Seats.{HasNewSeat, IsNewSeat, seat_numbers};
 ghost use Rattle.am_serve_seat.specs.Seats.{session_seat_numbers, latch_seats};
 
@@ -31,6 +34,7 @@ pub fn assign_seats<'a, L: LatchName>(
     requires counter_seats { All (λ h. h.of ≡ counters.now) counter_seats.items }
     requires fresh { All IsNewSeat seats.items }
     requires few { length counter_seats.items ≤ length seats.items }
+    requires runs { stays lifetime ≡ true → max_runs < L.most_runs }
     ensures count { IfOk result (λ r. length r.0.items ≡ length counter_seats.items) }
     ensures sessions { IfOk result (λ r. All HasNewSeat r.0.items) }
     ensures workers { IfOk result (λ r. All IsNewSeat r.1.items) }

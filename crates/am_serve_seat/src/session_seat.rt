@@ -1,6 +1,8 @@
 //! The seats of one session at the server.
 
-ghost use Rattle.std.specs.Prelude.{◌≡◌, ◌≤◌, ◌<◌, ℕ, Some, length};
+ghost use Rattle.std.specs.Prelude.{◌≡◌, ◌≤◌, ◌<◌, ℕ, Some, true, length};
+ghost use Rattle.am_record.specs.Refusals.{may_make_run};
+ghost use Rattle.am_record.specs.Limits.{max_runs};
 ghost use Rattle.am_latch.specs.Receipts.{last_commit_of};
 ghost use Rattle.am_serve_seat.specs.SessionSeats.{published, seat_meaning, HasDrawn, HasSameReceipts};
 
@@ -31,8 +33,8 @@ pub struct SessionSeat<'a, L: LatchName> {
     connections: &'a Connections,
     pacer: &'a MergePacer,
     place: usize,
-    // Whether it lets receipts go as it works.
-    holds_few: bool,
+    // Whether the server stays: the seat lets receipts go as it works, and a transaction may lapse.
+    stays: bool,
 }
 
 // By hand: a crate above then need not prove once more how a seat is dropped.
@@ -48,7 +50,7 @@ impl<'a, L: LatchName> Drop for SessionSeat<'a, L> {
             connections: _,
             pacer: _,
             place: _,
-            holds_few: _,
+            stays: _,
         } = self;
         drop(seat);
         drop(counter_seat);
@@ -56,7 +58,8 @@ impl<'a, L: LatchName> Drop for SessionSeat<'a, L> {
 }
 
 impl<'a, L: LatchName> Model for SessionSeat<'a, L> {
-    ghost use Rattle.std.specs.Prelude.{◌≡◌};
+    ghost use Rattle.std.specs.Prelude.{◌≡◌, ◌<◌, true};
+    ghost use Rattle.am_record.specs.Limits.{max_runs};
     ghost use Rattle.std.specs.Coded.{codes};
     ghost use Rattle.am_latch.specs.Receipts.{seat_state_code};
     ghost use Rattle.am_serve_seat.specs.SessionSeats.{SessionSeatState};
@@ -67,11 +70,11 @@ impl<'a, L: LatchName> Model for SessionSeat<'a, L> {
 
     ghost view = { λ p. record { seat = p.seat; counter_seat = p.counter_seat; number = p.number } };
 
-    ghost invariant = { λ p. p.counter_seat.of ≡ p.counters.now };
+    ghost invariant = { λ p. (p.counter_seat.of ≡ p.counters.now) × (p.stays ≡ true → max_runs < L.most_runs) };
 }
 
 impl<'a, L: LatchName> SessionSeat<'a, L> {
-    /// The session's number is not drawn yet. Where the seat is to hold few receipts, it lets them go as it works.
+    /// The session's number is not drawn yet. In a server that stays the seat lets receipts go as it works.
     pub fn new(
         latch: &'a Latch<L>,
         counters: &'a Counters,
@@ -81,9 +84,10 @@ impl<'a, L: LatchName> SessionSeat<'a, L> {
         connections: &'a Connections,
         pacer: &'a MergePacer,
         place: usize,
-        holds_few: bool,
+        stays: bool,
     ) -> SessionSeat<'a, L>
-        requires { counter_seat.of ≡ counters.now }
+        requires counters { counter_seat.of ≡ counters.now }
+        requires runs { stays ≡ true → max_runs < L.most_runs }
         ensures { result ≡ record { seat = seat; counter_seat = counter_seat; number = 0 } }
     {
         SessionSeat {
@@ -96,7 +100,7 @@ impl<'a, L: LatchName> SessionSeat<'a, L> {
             connections,
             pacer,
             place,
-            holds_few,
+            stays,
         }
     }
 
@@ -145,7 +149,7 @@ impl<'a, L: LatchName> SessionSeat<'a, L> {
             connections: _,
             pacer: _,
             place: _,
-            holds_few: _,
+            stays: _,
         } = self;
         drop(counter_seat);
         seat
@@ -155,13 +159,16 @@ impl<'a, L: LatchName> SessionSeat<'a, L> {
 impl<'a, L: LatchName> Backend for SessionSeat<'a, L> {
     ghost means = { seat_meaning L.most_runs };
 
+    // Who may is for the connections.
+    ghost ended = { Unit {0} };
+
     // The latch.
     type Held = Locked<'a, L>;
 
     // A commit is published before anybody hears of it.
     fn call<W: Wait>(&mut self, rt: &W, held: &mut Option<Locked<'a, L>>, step: Step) -> Reply {
-        let may_make_run = matches!(&step, Step::Do(_, Op::Load(_) | Op::Put(_)));
-        hold_few(&mut self.seat, self.holds_few);
+        let may_make_run = may_make_run(&step);
+        hold_few(&mut self.seat, self.stays);
         let reply = self.seat.call_on(rt, self.latch, held, step);
         if may_make_run && reply == Reply::Done {
             self.pacer.add_work();
@@ -178,14 +185,20 @@ impl<'a, L: LatchName> Backend for SessionSeat<'a, L> {
     }
 
     fn hold<W: Wait + Clock>(&self, rt: &W, millis: u64) -> HoldAnswer {
-        match self.turnstile.hold(rt, self.place, self.number, millis) {
+        let turnstile = self.turnstile;
+        match turnstile.hold(rt, self.place, self.number, millis, self.connections) {
             HoldReply::Holds => HoldAnswer::Granted,
             HoldReply::TooLong => HoldAnswer::OutOfBounds,
             HoldReply::KeptBy(session) => HoldAnswer::HeldBy(session),
         }
     }
 
-    fn who<W: Wait + Clock>(&self, rt: &W, alloc: Global) -> Result<ActiveSessions, NoMemory> {
+    fn who<W: Wait + Clock>(
+        &self,
+        rt: &W,
+        alloc: Global,
+        _held: &Option<Locked<'a, L>>,
+    ) -> Result<ActiveSessions, NoMemory> {
         let now = self.connections.now(rt);
         let mut sessions = Vec::new(alloc);
         for place in 0..self.connections.count() {
@@ -200,7 +213,7 @@ impl<'a, L: LatchName> Backend for SessionSeat<'a, L> {
         Ok(ActiveSessions::new(sessions))
     }
 
-    fn end<W: Wait>(&self, rt: &W, session: u64) -> EndAnswer {
+    fn end<W: Wait>(&self, rt: &W, session: u64, _held: &Option<Locked<'a, L>>) -> EndAnswer {
         if session == self.number {
             EndAnswer::EndsItself
         } else if self.connections.end(rt, session) {
@@ -210,17 +223,23 @@ impl<'a, L: LatchName> Backend for SessionSeat<'a, L> {
         }
     }
 
-    // Whether it does is for the clock, and for how the server was started.
+    fn is_ended(&self) -> bool {
+        self.connections.is_ended(self.place)
+    }
+
+    // Whether it does is for the clock, and for the limits of a server that stays.
     fn may_lapse(&self) -> bool {
-        true
+        self.stays
     }
 
     fn await_turn<W: Wait + Clock>(&self, rt: &W) {
-        self.turnstile.await_turn(rt, self.place, self.number);
+        self.turnstile
+            .await_turn(rt, self.place, self.number, self.connections);
     }
 
     fn await_ticket<W: Wait + Clock>(&self, rt: &W) {
-        self.turnstile.await_ticket(rt, self.place, self.number);
+        self.turnstile
+            .await_ticket(rt, self.place, self.number, self.connections);
     }
 
     fn is_kept(&self) -> bool {
@@ -234,6 +253,16 @@ impl<'a, L: LatchName> Backend for SessionSeat<'a, L> {
     fn end_session<W: Wait>(&self, rt: &W) {
         self.turnstile.end_turn(rt, self.place);
         self.turnstile.end_hold(rt, self.place);
+    }
+}
+
+// Whether a step may make a run, which workers may merge.
+fn may_make_run(step: &Step) -> bool
+    ensures { (tx : ℕ) (op : Op) → step.now ≡ Step.Do tx op → result ≡ may_make_run op }
+{
+    match step {
+        Step::Do(_, op) => op.may_make_run(),
+        _ => false,
     }
 }
 

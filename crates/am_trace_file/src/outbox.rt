@@ -38,6 +38,7 @@ pub struct Outbox {
     // 0 while nothing waits.
     has_come: AtomicU64,
     is_failed: AtomicBool,
+    is_told: AtomicBool,
     most_waiting: usize,
     alloc: Global,
 }
@@ -61,6 +62,7 @@ impl Outbox {
             }),
             has_come: AtomicU64::new(0),
             is_failed: AtomicBool::new(false),
+            is_told: AtomicBool::new(false),
             most_waiting,
             alloc,
         }
@@ -74,6 +76,11 @@ impl Outbox {
     /// Whether some of the text could not be written.
     pub fn is_failed(&self) -> bool {
         self.is_failed.load(Ordering::SeqCst)
+    }
+
+    /// Whether it is to be said that the trace is cut, where it is: the file didn't say so, and nobody asked before.
+    pub fn is_untold(&self) -> bool {
+        !self.is_failed() && !self.is_told.swap(true, Ordering::SeqCst)
     }
 
     /// How many bytes aren't written yet.

@@ -17,6 +17,7 @@ const DEFAULTS: Listening<'static> = Listening {
     grace: None,
     idle: None,
     lapse: 0,
+    idle_seat: 0,
     is_logged: false,
 };
 
@@ -31,6 +32,7 @@ const MOST: Listening<'static> = Listening {
     grace: None,
     idle: None,
     lapse: 0,
+    idle_seat: 0,
     is_logged: false,
 };
 
@@ -54,6 +56,7 @@ const STAYING: Listening<'static> = Listening {
     grace: Some(3600),
     idle: Some(43_200),
     lapse: 60,
+    idle_seat: 60,
     is_logged: true,
     ..DEFAULTS
 };
@@ -61,10 +64,11 @@ const STAYING: Listening<'static> = Listening {
 const NEVER_LAPSING: Listening<'static> = Listening {
     sessions: 64,
     stays: true,
+    idle_seat: 43_200,
     ..DEFAULTS
 };
 
-const ASKED: [Asked<'static>; 34] = [
+const ASKED: [Asked<'static>; 37] = [
     (&["amserve", "alone"], Ok(Options::Alone { auto: 16 })),
     (
         &["amserve", "alone", "--auto", "0"],
@@ -127,8 +131,30 @@ const ASKED: [Asked<'static>; 34] = [
             "--stay",
             "--idle-transaction",
             "0",
+            "--idle-seat",
+            "43200",
         ],
         Ok(Options::Listen(NEVER_LAPSING)),
+    ),
+    (
+        &[
+            "amserve",
+            "listen",
+            "--port",
+            "0",
+            "--stay",
+            "--idle-seat",
+            "43201",
+        ],
+        Err(2),
+    ),
+    (
+        &["amserve", "listen", "--port", "0", "--idle-seat", "0"],
+        Ok(Options::Listen(DEFAULTS)),
+    ),
+    (
+        &["amserve", "listen", "--port", "0", "--idle-seat", "1"],
+        Err(2),
     ),
     (
         &[

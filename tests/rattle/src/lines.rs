@@ -55,7 +55,8 @@ fn wants_memory(failing: Failing, end: End) -> bool {
     match end {
         End::NoMemory => true,
         End::WriteFailed => !matches!(failing, Failing::Write(_)),
-        End::Quit | End::EndedItself | End::EndOfInput | End::ReadFailed => false,
+        End::Quit | End::EndedItself | End::EndedByAnother | End::EndOfInput | End::ReadFailed =>
+            false,
     }
 }
 

@@ -32,11 +32,12 @@ fn the_first_byte_of_all_begins_a_line(rt: HostRuntime) {
     passes(&rt, alloc, b"A\n\nb\n", b"A||b|");
     passes(&rt, alloc, b"Z", b"Z$");
     passes(&rt, alloc, b"", b"");
-    passes(&rt, alloc, b"\nBEGIN\n", b"!");
-    passes(&rt, alloc, b"begin\n", b"!");
-    passes(&rt, alloc, b"@\n", b"!");
-    passes(&rt, alloc, b"[\n", b"!");
+    passes(&rt, alloc, b"\nBEGIN\n", b"|BEGIN|");
+    passes(&rt, alloc, b"begin\n", b"begin|");
+    passes(&rt, alloc, b"@\n", b"@|");
     passes(&rt, alloc, b"\x16\x03\x01\nBEGIN\n", b"!");
+    passes(&rt, alloc, b"\0\n", b"!");
+    passes(&rt, alloc, b"\xc3\xa9\n", b"!");
 }
 
 #[test]

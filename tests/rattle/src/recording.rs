@@ -17,6 +17,18 @@ use std::test::Fail;
 struct Noting<'a> {
     active: Option<u64>,
     aborts: &'a AtomicU64,
+    // Another session ends this one before the line after so many.
+    most_lines: u64,
+    lines: AtomicU64,
+}
+
+fn to_note(aborts: &AtomicU64, most_lines: u64) -> Noting<'_> {
+    Noting {
+        active: None,
+        aborts,
+        most_lines,
+        lines: AtomicU64::new(0),
+    }
 }
 
 impl<'a> Backend for Noting<'a> {
@@ -29,6 +41,8 @@ impl<'a> Backend for Noting<'a> {
       ends = λ _ _ _. Unit {0};
       lapses = Unit {0};
     } };
+
+    ghost ended = { Unit {0} };
 
     type Held = ();
 
@@ -62,7 +76,12 @@ impl<'a> Backend for Noting<'a> {
     }
 
     // Its number is 0, and that of another one 7.
-    fn who<W: Wait + Clock>(&self, _rt: &W, alloc: Global) -> Result<ActiveSessions, NoMemory> {
+    fn who<W: Wait + Clock>(
+        &self,
+        _rt: &W,
+        alloc: Global,
+        _held: &Option<()>,
+    ) -> Result<ActiveSessions, NoMemory> {
         let mut sessions = Vec::new(alloc);
         if let Some(tx) = self.active {
             sessions.push(ActiveSession {
@@ -79,12 +98,16 @@ impl<'a> Backend for Noting<'a> {
         Ok(ActiveSessions::new(sessions))
     }
 
-    fn end<W: Wait>(&self, _rt: &W, session: u64) -> EndAnswer {
+    fn end<W: Wait>(&self, _rt: &W, session: u64, _held: &Option<()>) -> EndAnswer {
         match session {
             0 => EndAnswer::EndsItself,
             7 => EndAnswer::Ends,
             _ => EndAnswer::NoSession,
         }
+    }
+
+    fn is_ended(&self) -> bool {
+        self.lines.fetch_add(1, Ordering::SeqCst) >= self.most_lines
     }
 
     fn may_lapse(&self) -> bool {
@@ -110,10 +133,7 @@ fn what_is_active_is_aborted(rt: HostRuntime) -> Result<(), Fail> {
     let lines = b"BEGIN\nGET 5\n".as_slice();
     for call in 0..=4 {
         let aborts = AtomicU64::new(0);
-        let mut backend = Noting {
-            active: None,
-            aborts: &aborts,
-        };
+        let mut backend = to_note(&aborts, u64::MAX);
         let mut source = PieceSource::new(lines, &[], 0);
         let mut sink = StopSink::new(rt.alloc(), call);
         let end = serve(&rt, rt.alloc(), &mut source, &mut sink, &mut backend, 0);
@@ -126,10 +146,7 @@ fn what_is_active_is_aborted(rt: HostRuntime) -> Result<(), Fail> {
 #[test]
 fn who_ends_itself_is_done(rt: HostRuntime) -> Result<(), Fail> {
     let aborts = AtomicU64::new(0);
-    let mut backend = Noting {
-        active: None,
-        aborts: &aborts,
-    };
+    let mut backend = to_note(&aborts, u64::MAX);
     let lines = b"WHO\nBEGIN\nWHO\nEND 7\nEND 8\nEND\nEND 0\nSEEN\nQUIT\n".as_slice();
     let mut source = PieceSource::new(lines, &[], 0);
     let mut sink = StopSink::new(rt.alloc(), 0);
@@ -138,6 +155,28 @@ fn who_ends_itself_is_done(rt: HostRuntime) -> Result<(), Fail> {
     let told =
         b"WHO 0\nBEGUN 1\nWHO 2 0:1:0 7:18446744073709551615:60\nOK\nERR SESSION\nERR SYNTAX\nOK\n";
     assert!(rt; sink.into_bytes().as_slice() == told.as_slice());
+    Ok(())
+}
+
+// Of a session that another ended nothing further is taken, though it is at hand, and what was active is aborted.
+#[test]
+fn who_is_ended_is_done(rt: HostRuntime) -> Result<(), Fail> {
+    let aborts = AtomicU64::new(0);
+    for (most_lines, told) in [
+        (0, b"".as_slice()),
+        (1, b"BEGUN 1\n".as_slice()),
+        (2, b"BEGUN 1\nOK\n".as_slice()),
+    ] {
+        aborts.store(0, Ordering::SeqCst);
+        let mut backend = to_note(&aborts, most_lines);
+        let lines = b"BEGIN\nINS a 1\nCOMMIT\nQUIT\n".as_slice();
+        let mut source = PieceSource::new(lines, &[], 0);
+        let mut sink = StopSink::new(rt.alloc(), 0);
+        let end = serve(&rt, rt.alloc(), &mut source, &mut sink, &mut backend, 0);
+        assert!(rt; end == End::EndedByAnother);
+        assert!(rt; aborts.load(Ordering::SeqCst) == most_lines.min(1));
+        assert!(rt; sink.into_bytes().as_slice() == told);
+    }
     Ok(())
 }
 
@@ -176,10 +215,7 @@ fn has_lapsed(
     count: u64,
 ) {
     let aborts = AtomicU64::new(0);
-    let mut backend = Noting {
-        active: None,
-        aborts: &aborts,
-    };
+    let mut backend = to_note(&aborts, u64::MAX);
     let mut source = Slow {
         pieces,
         is_late: false,
@@ -249,10 +285,7 @@ impl<'a> Sink for Parting<'a> {
 #[test]
 fn what_is_active_is_aborted_before_bye(rt: HostRuntime) -> Result<(), Fail> {
     let aborts = AtomicU64::new(0);
-    let mut backend = Noting {
-        active: None,
-        aborts: &aborts,
-    };
+    let mut backend = to_note(&aborts, u64::MAX);
     let mut source = PieceSource::new(b"BEGIN\nQUIT\n".as_slice(), &[], 0);
     let mut sink = Parting {
         aborts: &aborts,

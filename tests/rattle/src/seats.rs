@@ -138,7 +138,7 @@ fn assigned<L: LatchName, R: Abort>(
         &shared.turnstile,
         &shared.connections,
         &shared.pacer,
-        shared.lifetime,
+        Lifetime::Bounded,
         seats,
         counter_seats,
     )?;
@@ -162,6 +162,7 @@ fn the_first_seats_are_the_sessions(rt: HostRuntime) -> Result<(), Fail> {
     let limits = Limits {
         idle: None,
         lapse: None,
+        idle_seat: None,
         hold: 0,
     };
     let is_stopped = AtomicBool::new(false);

@@ -47,6 +47,7 @@ impl Watcher for Unwatched {
 const UNLIMITED: Limits = Limits {
     idle: None,
     lapse: None,
+    idle_seat: None,
     hold: 0,
 };
 

@@ -1,5 +1,6 @@
 use Rattle.std.proofs.Common.{◌∙◌, sym}
 use Rattle.am_line_session.proofs.LastAborts.{ended_whole, ended_itself, ended_failed, ended_torn, ended_quit}
+use Rattle.am_line_session.proofs.LastAborts.{ended_by_another}
 use Rattle.am_line_session.proofs.LastAborts.{ended_bye_torn}
 use Rattle.am_line_session.proofs.session.serve.Goals as goal
 
@@ -10,6 +11,14 @@ returns-in-EndedItself-clause-served g c =
     (c.talk-stop.new.backend, c.talk-stop.new.session.staged) c.leave.new.backend c.active.result
     (c.active.ensures ∙ sym c.talk-stop.ensures.active) c.leave.ensures.left
     (rw c.new-session.ensures at c.in-EndedItself.ensures.talked)
+
+pub returns-in-EndedByAnother-clause-served : goal.returns-in-EndedByAnother-clause-served
+returns-in-EndedByAnother-clause-served g c =
+    ended_by_another g.S.AnsweredSource.comes g.K.Sink.holds g.K.PartingSink.parts g.B.Backend.means c.args.auto
+    c.args.source.now c.talk-stop.new.source c.args.sink.now c.talk-stop.new.sink c.args.backend.now
+    (c.talk-stop.new.backend, c.talk-stop.new.session.staged) c.leave.new.backend c.active.result
+    (c.active.ensures ∙ sym c.talk-stop.ensures.active) c.leave.ensures.left
+    (rw c.new-session.ensures at c.in-EndedByAnother.ensures.talked)
 
 pub returns-in-EndOfInput-clause-served : goal.returns-in-EndOfInput-clause-served
 returns-in-EndOfInput-clause-served g c =

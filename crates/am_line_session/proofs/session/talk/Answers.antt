@@ -4,7 +4,7 @@ use Rattle.am_line_source.specs.LineAnswers.{line_by}
 use Rattle.am_line_source.specs.Lines.{TookLine}
 use Rattle.am_line_session.specs.Heard.{MayHear}
 use Rattle.am_line_session.proofs.SessionProgress.{talk_start, talk_more, talk_end, talk_quit, talk_torn, talk_last}
-use Rattle.am_line_session.proofs.SessionProgress.{talk_failed, talk_itself}
+use Rattle.am_line_session.proofs.SessionProgress.{talk_failed, talk_itself, talk_ended}
 use Rattle.am_line_session.proofs.HeardLines.{quit_heard, answered_heard, goes_on_behind, ended_behind, line_answered}
 use Rattle.am_line_session.proofs.session.talk.Goals as goal
 
@@ -34,6 +34,18 @@ returns-in_default-next-clause-talked g c =
     c.next_line.new.source c.args.sink.now c.lines.sink (c.args.backend.now, c.args.session.now.staged)
     (c.lines.backend, c.lines.session.staged) (c.next_line.new.backend, c.next_line.new.session.staged) c.lines.input
     c.next_line.new.input c.lines.invariant.talks waits e.0 e.1
+
+pub returns-then-is_ended-clause-talked : goal.returns-then-is_ended-clause-talked
+returns-then-is_ended-clause-talked g c =
+    let l = rw c.in-Some-next.is at c.in-Ok.ensures.line in
+    let line = line_by c.in-Some-next.read.found.kind c.next_line.new.line in
+    let late = c.in-Some-next.read.is_late in
+    let waits = rw c.in-Some-next.is at c.in-Ok.ensures.waited in
+    talk_ended g.S.AnsweredSource.comes g.K.Sink.holds g.B.Backend.means c.args.auto c.args.source.now c.lines.source
+    c.next_line.new.source c.args.sink.now c.lines.sink (c.args.backend.now, c.args.session.now.staged)
+    (c.lines.backend, c.lines.session.staged) c.lines.input c.next_line.new.input line
+    c.in-Some-next.read.found.is_ended
+    c.lines.invariant.talks l (c.next_line.new.backend, c.next_line.new.session.staged) (late, waits.0, waits.1)
 
 pub returns-then-is_quit-clause-talked : goal.returns-then-is_quit-clause-talked
 returns-then-is_quit-clause-talked g c =

@@ -16,6 +16,8 @@ returns c =
     c.number-3.ensures c.in_ok-arg-5.ensures in
     let with_lapse = arg_added c.in_ok-arg-5.field-0 c.in_ok-arg-6.field-0 c.number-4.result _ _ with_idle
     c.number-4.ensures c.in_ok-arg-6.ensures in
-    IfOk-weaker c.arg-7.result _ _
-    (λ command adds. arg_added c.in_ok-arg-6.field-0 command c.flag-3.result _ _ with_lapse c.flag-3.ensures adds)
-    c.arg-7.ensures
+    let with_idle_seat = arg_added c.in_ok-arg-6.field-0 c.in_ok-arg-7.field-0 c.number-5.result _ _ with_lapse
+    c.number-5.ensures c.in_ok-arg-7.ensures in
+    IfOk-weaker c.arg-8.result _ _
+    (λ command adds. arg_added c.in_ok-arg-7.field-0 command c.flag-3.result _ _ with_idle_seat c.flag-3.ensures adds)
+    c.arg-8.ensures

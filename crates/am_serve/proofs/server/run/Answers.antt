@@ -10,7 +10,7 @@ use Rattle.am_latch.specs.Receipts.{SeatState}
 use Rattle.am_serve_connections.specs.Lifetimes.{most_sessions}
 use Rattle.am_serve.specs.ServerTraces.{HasStored, IsOfSessions}
 use Rattle.am_serve_seat.proofs.SeatOrder.{all_new, count_back, all_there, joined_seats, length-numbered}
-use Rattle.am_serve.proofs.WorkedSeats.{all_of_workers}
+use Rattle.am_serve.proofs.WorkedSeats.{all_of_workers, more_runs}
 use Rattle.am_serve.proofs.InTurn.{all_came_back, all_of_turns, as_many_served}
 use Rattle.am_serve_drain.proofs.TakenPieces.{taken_at_first}
 use Rattle.am_serve.proofs.Crosses.{captures_send}
@@ -29,6 +29,9 @@ join-beside-requires-send-F g c κs within = param_send _ _ (arg_send _ no _ (ca
 
 pub assign_seats-requires-clause-fresh : goal.assign_seats-requires-clause-fresh
 assign_seats-requires-clause-fresh g c = subst (All IsNewSeat) (sym c.in-Ok.ensures.seats) (all_new g.L.LatchName.seats)
+
+pub assign_seats-requires-clause-runs : goal.assign_seats-requires-clause-runs
+assign_seats-requires-clause-runs g c = more_runs c.args.shared.now.lifetime g.L.LatchName.most_runs c.requires.runs
 
 pub assign_seats-requires-clause-few : goal.assign_seats-requires-clause-few
 assign_seats-requires-clause-few g c = omega (
