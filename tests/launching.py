@@ -4,6 +4,7 @@ The program is a stand-in, but where its own words count."""
 
 import os
 import random
+import shutil
 import signal
 import stat
 import subprocess
@@ -137,6 +138,24 @@ def early_interrupts(times: int) -> None:
             fail(f"a start that was interrupted goes on (try {number})")
 
 
+def unproved(folder: str) -> None:
+    """`amserve try` is `alone` by a program that isn't proved: it says so first and last, ends with that program's status, and hands on
+    what the kit says, but for how the run ended. The kit is a stand-in."""
+    top, tools = os.path.join(folder, "top"), os.path.join(folder, "kit")
+    for at in (os.path.join(top, "crates", "am_program_alone"), tools):
+        os.makedirs(at)
+    shutil.copy(AMSERVE, top)
+    kit = 'echo "$PWD $*: $(cat)"\necho "error: a word" >&2\necho "run=ended status=2 runners=1 races=unchecked proved=no" >&2\nexit 2\n'
+    write(os.path.join(tools, "rt"), f"#!/bin/sh\n{kit}", 0o755)
+    env = {**os.environ, "PATH": f"{tools}:{os.environ['PATH']}"}
+    run = subprocess.run([f"{top}/amserve", "try", "--auto", "3"], input="BEGIN", env=env, capture_output=True, text=True, timeout=LIMIT, check=False)
+    first, *between, last = run.stderr.splitlines()
+    said = f"{os.path.realpath(top)}/crates/am_program_alone try --seconds 600 -- alone --auto 3: BEGIN\n"
+    wanted("a run that isn't proved", (run.returncode, run.stdout, between), (2, said, ["error: a word"]))
+    wanted("what it says first and last", ["nothing is proved" in it for it in (first, last)], [True, True])
+    wanted("what stays", os.listdir(os.path.join(top, "crates", "am_program_alone")), [])
+
+
 def limits() -> None:
     """Too few files, and too small a stack, are told by their names."""
     for program, limit, said in (
@@ -159,9 +178,10 @@ def main(_words: Sequence[str]) -> None:
         by_link(program, folder)
         signals(program)
         modes(folder)
+        unproved(folder)
         early_interrupts(24)
         limits()
-    print("launching: a trace's file, two starts at once, links, modes, signals, early interrupts, limits")
+    print("launching: a trace's file, two starts at once, links, modes, a run that is not proved, signals, early interrupts, limits")
 
 
 if __name__ == "__main__":

@@ -18,6 +18,7 @@ from tree import TOP
 KNOWN_KIT = f"{TOP}/tools/known_kit.py"
 # The status of known_kit.py where the kit refuses a crate, where it doesn't know the kit, and where it is itself wrong.
 REFUSED, UNKNOWN, WRONG = 10, 11, 12
+SOONER = " (./amserve try <LINES answers lines in a minute or two, by a program that isn't proved)"
 
 
 def build(crates: List[str]) -> int:
@@ -46,7 +47,7 @@ def make(names: List[str]) -> int:
             if os.path.exists(f"{sums.place_of(it)}.sum"):
                 os.remove(f"{sums.place_of(it)}.sum")
         if wanted:
-            progress.tell(f"{' '.join(wanted)}: building; what is below is proved first")
+            progress.tell(f"{' '.join(wanted)}: building; what is below is proved first{SOONER if 'am_program_alone' in wanted else ''}")
         status = build(list(wanted)) if wanted else 0
         if not status:
             # (what changed while it was built is seen at the next start: the sums are those of before)
