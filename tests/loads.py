@@ -16,8 +16,8 @@ from support import AMLOAD, AMSERVE, LIMIT, TOP, Client, Server, alone, audit, f
 
 sys.path.insert(0, f"{TOP}/python")
 import tiuvrokk  # noqa: E402
-from tiuvrokk_tools.escapes import escaped_key, escaped_value, unescaped_line, unescaped_lines  # noqa: E402
-from tiuvrokk_tools.records import RECORD  # noqa: E402
+from tiuvrokk._escapes import escaped_key, escaped_value, unescaped_line, unescaped_lines  # noqa: E402
+from tiuvrokk._grammar import RECORD  # noqa: E402
 
 BAD_LINES = [
     ("", ""),

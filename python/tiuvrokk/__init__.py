@@ -19,7 +19,8 @@ the same calls and the same exceptions:
     with tiuvrokk.connect(port=7070) as client:
         client.run(lambda tx: tx.update(ant="6"))
 
-`tiuvrokk.aio` has that client for asyncio.
+`tiuvrokk.aio` has that client for asyncio. A server keeps visible ASCII, keys without `=`; with `escape=True` a client brings it
+any bytes.
 
 Each operation locks the keys that it speaks of until its transaction ends. A lock is granted or refused at once, by `Busy`,
 which names the transaction that is in the way. A store is used by the thread that opened it, and raises `WrongThread` on any
@@ -35,8 +36,8 @@ from ._library import upkeep
 from ._store import Figures, Store, Transaction
 from ._wire import Active
 from .errors import (
-    MAX_KEY, MAX_LIMIT, MAX_VALUE, Absent, Bad, BadLine, Busy, Closed, Conflict, Error, Exists, Held, Lapsed, NoMark,
-    NoTransaction, OutOfMemory, Refused, Status, TooMany, Twice, Unknown, Unreachable, WrongThread,
+    MAX_KEY, MAX_LIMIT, MAX_VALUE, Absent, Bad, BadLine, Busy, Closed, Conflict, Disconnected, Error, Exists, Forked, Held, Lapsed,
+    NoMark, NoTransaction, OutOfMemory, Refused, Status, TooMany, Twice, Unknown, Unreachable, WrongThread,
 )
 
 # What it was called before, where the records of a run have a key twice.
@@ -47,7 +48,7 @@ __version__ = "1.1.0"
 __all__ = [
     "MAX_KEY", "MAX_VALUE", "MAX_LIMIT", "Store", "Transaction", "Figures", "connect", "Client", "RemoteTransaction", "Active", "upkeep", "Status",
     "Error", "Absent", "Exists", "Busy", "NoTransaction", "NoMark", "TooMany", "Twice", "Bad", "BadLine", "Closed",
-    "OutOfMemory", "Refused", "Conflict", "Unreachable", "Unknown", "Held", "Lapsed", "WrongThread",
+    "OutOfMemory", "Refused", "Conflict", "Unreachable", "Unknown", "Held", "Lapsed", "Disconnected", "Forked", "WrongThread",
 ]
 
 # A traceback names an exception as a program does.

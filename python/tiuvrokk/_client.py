@@ -15,23 +15,24 @@ from threading import get_ident
 from types import TracebackType
 from typing import Any, Optional, TypeVar, Union, overload
 
-from ._mapping import MAX_PAGE, MAX_ROWS, MAX_TRIES, RUN, Mapped, Runner, first_page, limited, most_of
-from ._records import GREATEST, Record, Records, Text, double_line, first_double, line_runs, range_of, runs_of
-from ._wire import GREATEST_KEY, KEY, LAPSED, LEAST_KEY, RECORDS, VALUE, Path, Wire, below_key, ends_of, key_of, number_of, refusal
-from ._wire import Active, actives_of, rows_of, value_of
-from .errors import MAX_LIMIT, Absent, Bad, Closed, Conflict, Error, Exists, NoTransaction, OutOfMemory, Refused, Twice
-from .errors import Unknown, Unreachable, WrongThread, bad_limit, bad_range, bad_text
+from ._grammar import GREATEST_KEY, LEAST_KEY, MAX_LOCKS, MAX_RUN, VALUE
+from ._mapping import MAX_PAGE, MAX_ROWS, Mapped, Runner, first_page, limited, most_of
+from ._records import GREATEST, Record, Records, Text, bytes_of, double_line, first_double, line_runs, range_of, runs_of
+from ._stream import Path
+from ._texts import EscapedTexts, Texts, below_key
+from ._tries import MAX_TRIES, Tries, hold
+from ._wire import LAPSED, Active, Wire, actives_of, number_of, refusal, rows_of
+from .errors import MAX_LIMIT, Absent, Closed, Conflict, Error, Exists, NoTransaction, OutOfMemory, Refused, Twice
+from .errors import Unknown, Unreachable, WrongThread, bad_limit, bad_range
 
 Default = TypeVar("Default")
 AnyClient = TypeVar("AnyClient", bound="Client")
 
-# A transaction has 256 locks: a load of more runs locks all keys first.
-_LOCKED_RUNS = 255
+# A load of more runs locks all keys first.
+_LOCKED_RUNS = MAX_LOCKS - 1
 # With more lines COMMIT isn't sent to a replica before they were answered: one may be refused.
 _SURE = 500
-_LONGEST_LINE = 4096
 _HOLD = 2000
-_FIRST_HOLD = 100
 _OK = (b"OK",)
 
 
@@ -42,12 +43,15 @@ def connect(
     host: str = "127.0.0.1",
     timeout: Optional[float] = 120.0,
     check_same_thread: bool = True,
+    escape: bool = False,
 ) -> Client:
     """A client of the server or the replica at a port, or at a socket of the file system. An answer is awaited for `timeout`
-    seconds, without end where that is None. `check_same_thread=False` is for who sees to it that threads take turns."""
+    seconds, without end where that is None. `check_same_thread=False` is for who sees to it that threads take turns. With `escape`
+    keys and values are any bytes, also none: lines carry them by percent signs, as `amload --escape` does, each such byte as three
+    of the 32 and 64 that there are."""
     if (port is None) == (path is None):
         raise TypeError("a client is connected to a port, or to a path")
-    return Client(None if port is None else index(port), path, host, timeout, check_same_thread)
+    return Client(None if port is None else index(port), path, host, timeout, check_same_thread, escape)
 
 
 class Client(Runner["RemoteTransaction"]):
@@ -56,9 +60,10 @@ class Client(Runner["RemoteTransaction"]):
 
     def __init__(
         self, port: Optional[int], path: Optional[Path] = None, host: str = "127.0.0.1", timeout: Optional[float] = 120.0,
-        check_same_thread: bool = True,
+        check_same_thread: bool = True, escape: bool = False,
     ) -> None:
         self._place = (port, path, host, timeout)
+        self._texts = EscapedTexts() if escape else Texts()
         self._thread = get_ident() if check_same_thread else 0
         self._is_closed = False
         # The transaction that was begun and hasn't ended. One that was dropped is aborted before the next line.
@@ -71,11 +76,15 @@ class Client(Runner["RemoteTransaction"]):
         answer = wire.ask([b"REPLICA"])[0]
         if answer not in (b"REPLICA", b"ERR SYNTAX"):
             wire.close()
-            raise refusal(answer, b"", 0)
+            raise refusal(answer)
         self.is_replica = answer == b"REPLICA"
         """Whether the other side is a replica."""
         self._begun = None
         return wire
+
+    def _leave_to_parent(self) -> None:
+        # (the connection is the other process's too, and ends with that)
+        self._wire.close()
 
     def close(self) -> None:
         """Ends the session; a transaction that is active is aborted. A client may be closed twice."""
@@ -139,12 +148,12 @@ class Client(Runner["RemoteTransaction"]):
         found: bool = self._asked(b"END %d" % index(session), look)
         return found
 
-    def load(self, records: Records, run: int = RUN, hold: int = _HOLD) -> int:
+    def load(self, records: Records, run: int = MAX_RUN, hold: int = _HOLD) -> int:
         """Adds the records of a mapping, or pairs, all or none, in a transaction of its own, as its `load` does, and answers how
         many they are. It holds a server for so many milliseconds first, where that knows it; 0 is for none."""
         return self._loaded(runs_of(records, _run(run)), hold)
 
-    def load_file(self, path: Union[str, os.PathLike[str]], run: int = RUN, hold: int = _HOLD) -> int:
+    def load_file(self, path: Union[str, os.PathLike[str]], run: int = MAX_RUN, hold: int = _HOLD) -> int:
         """Loads the records of a file, all or none, in a transaction of its own, and answers how many they are. Each line is a
         record, as `amload` reads it. Raises `BadLine`, and `Exists` where a key has a record."""
         with open(path, "rb") as file:
@@ -154,36 +163,30 @@ class Client(Runner["RemoteTransaction"]):
         except (Exists, Twice) as error:
             raise double_line(io.BytesIO(text), error.key) or error from None
 
-    def _loaded(self, runs: Iterable[list[Record]], hold: int) -> int:
+    def _loaded(self, runs: Iterable[list[Record]], milliseconds: int) -> int:
         """Loads runs in a transaction of its own. A server is held until one lock covers all of them: so no lock is in the way,
         however long the load takes. Short holds come first, since others wait as long."""
-        if not hold or self.is_replica:
+        if not milliseconds or self.is_replica:
             with self.transaction() as tx:
                 return tx._load_runs(runs)
-        made, lengths = list(runs), itertools.chain((_FIRST_HOLD << it for it in range(16)), itertools.repeat(hold))
-        ends = (min(run[0][0] for run in made), max(run[-1][0] for run in made)) if made else None
+        made, tries = list(runs), Tries(MAX_TRIES)
 
         def once() -> int:
-            self._hold_for(min(hold, next(lengths)))
+            if refused := hold(self._answer, min(milliseconds, tries.part_of(milliseconds))):
+                raise refusal(refused)
             with self.transaction() as tx:
-                if ends:
-                    tx.lock(*ends, exclusive=True)
+                if made:
+                    tx.lock(*self._texts.covering(made), exclusive=True)
                 return tx._load_runs(made)
 
-        return self._again(once, MAX_TRIES)
+        return self._again(once, tries)
 
-    def _hold_for(self, milliseconds: int) -> None:
-        """Holds a server for so long, or for as long as it lets one hold, unless it knows no such line."""
-        while milliseconds:
-            try:
-                self.hold(milliseconds)
-                return
-            except Bad:
-                milliseconds //= 2
-            except Refused as refused:
-                if refused.answer != "ERR SYNTAX":
-                    raise
-                return
+    def _answer(self, line: bytes) -> bytes:
+        """The answer to a line that isn't a transaction's."""
+        self._stay()
+        if not self._wire.is_open:
+            self._wire = self._connected()
+        return self._ask(self._wire, [line])[0]
 
     def merge(self, limit: int = MAX_LIMIT) -> Optional[int]:
         """One merge step: works off at most `limit` entries of the oldest range that was read. Answers how many they were, 0 where
@@ -199,7 +202,7 @@ class Client(Runner["RemoteTransaction"]):
 
     def clean(self, lo: Text = b"", hi: Text = GREATEST, limit: int = MAX_LIMIT) -> int:
         """One clean step: takes away at most `limit` entries that are marked as deleted, and answers how many."""
-        line = b"CLEAN %b %b %d" % (*ends_of(lo, hi), _limit(limit))
+        line = b"CLEAN %b %b %d" % (*self._texts.ends(lo, hi), _limit(limit))
         found: int = self._asked(line, lambda answer: number_of(answer, b"CLEANED"))
         return found
 
@@ -216,17 +219,15 @@ class Client(Runner["RemoteTransaction"]):
 
     def _asked(self, line: bytes, look: Callable[[bytes], Any]) -> Any:
         """What an answer says that isn't a transaction's."""
-        self._stay()
-        if not self._wire.is_open:
-            self._wire = self._connected()
-        answer = self._ask(self._wire, [line])[0]
+        answer = self._answer(line)
         found = look(answer)
         if found is None:
-            raise refusal(answer, line, 0)
+            raise refusal(answer, line)
         return found
 
     def _stay(self) -> None:
-        """Raises where another thread than the client's is at work, or it is closed."""
+        """Raises where another process connected the client, another thread than its own is at work, or it is closed."""
+        super()._stay()
         if self._thread and self._thread != get_ident():
             raise WrongThread(self._thread, get_ident())
         if self._is_closed:
@@ -268,7 +269,7 @@ class RemoteTransaction(Mapped):
 
     def __init__(self, client: Client) -> None:
         self._client = client
-        self._wire = client._wire
+        self._wire, self._texts = client._wire, client._texts
         self._number = 0
         self.commit_number = 0
         """The number of its commit, or 0 before that."""
@@ -377,18 +378,18 @@ class RemoteTransaction(Mapped):
 
     def get(self, key: Text, default: Any = None) -> Any:
         """The value under the key, or `default` where there is none."""
-        line = b"GET " + key_of(key)
+        line = b"GET " + self._texts.key(key)
         answer = self._send([line])[-1]
         if answer == b"NONE":
             return default
         value = answer[4:]
         if not VALUE.fullmatch(value):
             raise Refused(answer.decode("ascii", "backslashreplace"))
-        return value
+        return self._texts.of_line(value)
 
     def __setitem__(self, key: Text, value: Text) -> None:
         """Sets the value under the key, whether it has one or not."""
-        record = key_of(key) + b" " + value_of(value)
+        record = self._texts.key(key) + b" " + self._texts.value(value)
         self._do(b"SET " + record)
 
     def __delitem__(self, key: Union[Text, slice]) -> None:
@@ -396,13 +397,12 @@ class RemoteTransaction(Mapped):
         if isinstance(key, slice):
             self._delete_between(key)
             return
-        text = key_of(key)
-        if self._send([b"DEL " + text])[-1] != b"OK":
-            raise Absent(text)
+        if self._send([b"DEL " + self._texts.key(key)])[-1] != b"OK":
+            raise Absent(bytes_of(key))
 
     def discard(self, key: Text) -> None:
         """Takes the record away, where there is one."""
-        self._do(b"DEL " + key_of(key))
+        self._do(b"DEL " + self._texts.key(key))
 
     def _do(self, line: bytes) -> None:
         """A line that writes, whatever it is answered: to a replica it goes with what follows."""
@@ -436,29 +436,27 @@ class RemoteTransaction(Mapped):
         low, high = range_of(lo, hi)
         if low > high:
             raise bad_range(low, high)
-        return ends_of(low, high) if high else None
+        return self._texts.ends(low, high) if high else None
 
     def insert(self, key: Text, value: Text) -> None:
         """Adds a record. Raises `Exists` where the key has one."""
-        text = key_of(key)
-        if self._send([b"INS %b %b" % (text, value_of(value))])[-1] != b"OK":
-            raise Exists(text)
+        if self._send([b"INS %b %b" % (self._texts.key(key), self._texts.value(value))])[-1] != b"OK":
+            raise Exists(bytes_of(key))
 
     def replace(self, key: Text, value: Text) -> None:
         """Gives a record another value. Raises `Absent` where there is none."""
-        text = key_of(key)
-        if self._send([b"REP %b %b" % (text, value_of(value))])[-1] != b"OK":
-            raise Absent(text)
+        if self._send([b"REP %b %b" % (self._texts.key(key), self._texts.value(value))])[-1] != b"OK":
+            raise Absent(bytes_of(key))
 
     def lock(self, lo: Text, hi: Optional[Text] = None, exclusive: bool = False) -> None:
         """Locks the range from `lo` to `hi`, or one key: to read it, or to write it where the lock is exclusive."""
-        low, high = ends_of(lo, lo if hi is None else hi)
+        low, high = self._texts.ends(lo, lo if hi is None else hi)
         if self._client.is_replica:
             self._look()  # (it has all keys locked from the beginning)
             return
         self._send([b"LOCK %b %b %b" % (b"X" if exclusive else b"S", low, high)])
 
-    def load(self, records: Records, run: int = RUN) -> int:
+    def load(self, records: Records, run: int = MAX_RUN) -> int:
         """Adds the records of a mapping, or pairs, in any order, cut into runs of at most `run` records, each sorted and added
         as a whole. Answers how many records were added.
 
@@ -485,7 +483,7 @@ class RemoteTransaction(Mapped):
         except Twice:
             raise Twice(first_double(records)) from None
         if answer != b"OK":
-            raise refusal(answer, last, self._number)
+            raise refusal(answer, last, self._number, self._texts)
 
     def _put(self, records: list[Record]) -> None:
         self._look()
@@ -493,7 +491,7 @@ class RemoteTransaction(Mapped):
 
     def _staged(self, records: list[Record], verb: bytes) -> bytes:
         """The line that brings the last records of a run, once those before were staged."""
-        *staged, last = _lines_of(records, verb)
+        *staged, last = self._texts.lines(records, verb)
         try:
             self._send(staged)
         except OutOfMemory:
@@ -529,21 +527,21 @@ class RemoteTransaction(Mapped):
             rows = rows_of(answer, size + repeated)
             if rows is None:
                 raise Refused(answer.decode("ascii", "backslashreplace"))
-            yield rows[repeated:]
+            yield self._texts.rows_of_lines(rows[repeated:])
             if len(rows) < size + repeated:
                 return
             low, high = (low, rows[-1][0]) if is_back else (rows[-1][0], high)
             repeated, size = 1, min(2 * size, MAX_PAGE)
 
     def _from_below(self, low: bytes, end: bytes) -> list[Record]:
-        high = below_key(key_of(end))
-        first, last = ends_of(low, GREATEST)
+        high = below_key(self._texts.key(end))
+        first, last = self._texts.ends(low, GREATEST)
         pages = self._rows(first, min(high, last), MAX_PAGE) if high >= first else iter(())
         return list(itertools.chain.from_iterable(pages))
 
     def _delete_below(self, low: bytes, end: bytes) -> None:
-        high = below_key(key_of(end))
-        first, last = ends_of(low, GREATEST)
+        high = below_key(self._texts.key(end))
+        first, last = self._texts.ends(low, GREATEST)
         if high >= first:
             sum(self._deletions(first, min(high, last), sys.maxsize))
 
@@ -572,7 +570,7 @@ class RemoteTransaction(Mapped):
             self._number = number_of(answers[0], b"BEGUN") or 0
         for line, answer in zip([sent[-1], *sent], [answers[-1], *answers]):
             if not _is_wanted(line, answer):
-                raise refusal(answer, line, self._number)
+                raise refusal(answer, line, self._number, self._texts)
         return answers
 
 
@@ -596,28 +594,10 @@ def _is_wanted(line: bytes, answer: bytes) -> bool:
     return answer == word if word in (b"OK", b"NONE", b"MISSING", b"ABORTED") else True
 
 
-def _lines_of(records: list[Record], verb: bytes) -> list[bytes]:
-    """The lines that stage all records of a run but the last, which bring it."""
-    pairs = [b"%b=%b" % record for record in records]
-    if not RECORDS.fullmatch(b" ".join([*pairs, b""])) or any(map(_is_odd, records)):
-        raise next(_fault_of(record) for record in records if _is_odd(record))
-    width = (_LONGEST_LINE - len("STAGE")) // (max(map(len, pairs)) + 1)
-    parts = [b" ".join(pairs[at : at + width]) for at in range(0, len(pairs), width)]
-    return [*[b"STAGE " + part for part in parts[:-1]], verb + b" " + parts[-1]]
-
-
-def _is_odd(record: Record) -> bool:
-    return not (KEY.fullmatch(record[0]) and VALUE.fullmatch(record[1]))
-
-
-def _fault_of(record: Record) -> Error:
-    return bad_text("value", record[1]) if KEY.fullmatch(record[0]) else bad_text("key", record[0])
-
-
 def _run(run: int) -> int:
     """The most records of a run."""
-    if not 1 <= index(run) <= RUN:
-        raise bad_limit(RUN, run)
+    if not 1 <= index(run) <= MAX_RUN:
+        raise bad_limit(MAX_RUN, run)
     return run
 
 

@@ -4,7 +4,7 @@ process and one at the other end of a connection answer in ways of their own."""
 from __future__ import annotations
 
 import itertools
-import random
+import os
 import sys
 import time
 import weakref
@@ -15,21 +15,19 @@ from operator import index
 from types import TracebackType
 from typing import Any, Deque, Generic, NoReturn, Optional, TypeVar, Union, overload
 
+from ._grammar import MAX_RUN
 from ._records import GREATEST, Record, Records, Text, bytes_of, checked, range_of, runs_of
-from .errors import Absent, Busy, Conflict, Held, Lapsed, Status, TooMany, bad_limit
+from ._tries import MAX_TRIES, TRIED_AGAIN, Tries
+from .errors import Absent, Forked, TooMany, bad_limit
 
 Default = TypeVar("Default")
 Result = TypeVar("Result")
 Tx = TypeVar("Tx", bound="Mapped")
+AnyRunner = TypeVar("AnyRunner", bound="Runner[Any]")
 
-MAX_TRIES = 100
-"""How often `run` runs its function, unless it is told otherwise."""
 MAX_PAGE = 999
 MAX_ROWS = 1000
-RUN = 65536
 _REQUIRED: Any = object()
-# Seconds: the first pause is up to this long, each further one up to twice as long, and none longer than the other.
-_FIRST_PAUSE, _LONGEST_PAUSE = 0.001, 0.25
 # More records are put together. So few go to their places one by one, and make no run.
 _SINGLE = 64
 # So many values are kept of keys that were given.
@@ -43,18 +41,38 @@ class Unique:
         raise TypeError(f"a {type(self).__name__} stands in the memory of its process, and can't be copied or pickled")
 
 
-def may_come_right(error: Exception) -> bool:
-    """Whether the same transaction may go well a little later."""
-    return isinstance(error, (Busy, Conflict, Held, Lapsed)) or (isinstance(error, TooMany) and error.status is Status.TOO_MANY_TX)
+# What gives transactions in this process: a fork of it has none of them.
+_runners: weakref.WeakSet[Runner[Any]] = weakref.WeakSet()
 
 
-def pause_after(tried: int) -> float:
-    """How many seconds pass after so many tries, by chance."""
-    return random.uniform(0, min(_FIRST_PAUSE * 2 ** min(tried - 1, 16), _LONGEST_PAUSE))
+def _leave_to_parent() -> None:
+    for runner in list(_runners):
+        runner._is_forked = True
+        runner._leave_to_parent()
+
+
+os.register_at_fork(after_in_child=_leave_to_parent)
 
 
 class Runner(Unique, Generic[Tx]):
     """What gives transactions."""
+
+    _is_forked = False
+    """Whether another process opened it."""
+
+    def __new__(cls: type[AnyRunner], *_words: object, **_named: object) -> AnyRunner:
+        made = super().__new__(cls)
+        _runners.add(made)
+        return made
+
+    def _leave_to_parent(self) -> None:
+        """Lets go what is the other process's, which goes on with it."""
+        raise NotImplementedError
+
+    def _stay(self) -> None:
+        """Raises where this process can't use it."""
+        if self._is_forked:
+            raise Forked
 
     def transaction(self) -> Tx:
         """Begins a transaction."""
@@ -62,15 +80,15 @@ class Runner(Unique, Generic[Tx]):
 
     def run(self, function: Callable[[Tx], Result], tries: int = MAX_TRIES) -> Result:
         """Runs the function in a transaction, and answers what it answers, once that is committed. It runs again where another
-        transaction was in the way (`Busy`, `Conflict`, `Held`, and `TooMany` transactions), or it slept for too long (`Lapsed`),
-        `tries` times at most, with pauses that grow; then that is raised. Any other exception aborts the transaction and isn't held. So the function does
-        nothing but ask its transaction."""
+        transaction was in the way (`Busy`, `Conflict`, `Held`, and `TooMany` transactions), it slept for too long (`Lapsed`), or the
+        connection was lost before COMMIT was sent (`Disconnected`), `tries` times at most, with pauses that grow; then that is
+        raised. Any other exception aborts the transaction and isn't held. So the function does nothing but ask its transaction."""
 
         def once() -> Result:
             with self.transaction() as tx:
                 return function(tx)
 
-        return self._again(once, tries)
+        return self._again(once, Tries(tries))
 
     def get(self, key: Text, default: Any = None) -> Any:
         """The value under the key, or `default` where there is none, by a transaction of its own, as each of the following."""
@@ -109,18 +127,15 @@ class Runner(Unique, Generic[Tx]):
         # (not by `__len__`, which reads all)
         return True
 
-    def _again(self, call: Callable[[], Result], tries: int) -> Result:
+    def _again(self, call: Callable[[], Result], tries: Tries) -> Result:
         """What a call answers, at one of so many tries."""
-        if tries < 1:
-            raise ValueError(f"{tries} tries")
-        for tried in itertools.count(1):
+        while True:
+            tries.begin()
             try:
                 return call()
-            except (Busy, Conflict, Held, Lapsed, TooMany) as error:
-                if tried == tries or not may_come_right(error):
-                    raise
-            time.sleep(pause_after(tried))
-        raise AssertionError("not reached")
+            except TRIED_AGAIN as error:
+                pause = tries.pause_after(error)
+            time.sleep(pause)
 
 
 class Walk:
@@ -291,9 +306,9 @@ class Mapped(Unique):
                 self[key] = value
             return
         last = dict(checked(pairs))
-        if len(last) > RUN:
+        if len(last) > MAX_RUN:
             self.lock(min(last), max(last), exclusive=True)
-        for run in runs_of(last, RUN):
+        for run in runs_of(last, MAX_RUN):
             self._put(run)
 
     def _put(self, records: list[Record]) -> None:

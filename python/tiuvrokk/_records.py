@@ -12,6 +12,7 @@ from collections.abc import Iterable, Iterator, Mapping, Sequence
 from operator import itemgetter
 from typing import Any, Optional, Union
 
+from ._grammar import KEY_TEXT, VALUE_TEXT, with_tab
 from .errors import MAX_KEY, MAX_VALUE, BadLine, bad_key, bad_value, shown
 
 Text = Union[bytes, bytearray, memoryview, str]
@@ -222,7 +223,7 @@ def bad_line(text: bytes) -> BadLine:
     return _bad_line(list(io.BytesIO(text if text.endswith(b"\n") else text + b"\n")), 1)
 
 
-_LINE = re.compile(rb"^([!-<>-~]{1,32})\t([!-~]{1,64})\r?$", re.MULTILINE)
+_LINE = re.compile(b"^(%b)\t(%b)\r?$" % (KEY_TEXT, VALUE_TEXT), re.MULTILINE)
 
 
 def line_runs(file: Iterable[bytes], run: int) -> Iterator[list[Record]]:
@@ -239,17 +240,12 @@ def line_runs(file: Iterable[bytes], run: int) -> Iterator[list[Record]]:
         lines = following
 
 
-def _with_tab(line: bytes) -> bytes:
-    """The line with a TAB behind its key."""
-    return line if b"\t" in line else line.replace(b"=", b"\t", 1)
-
-
 def _records(lines: list[bytes], number: int) -> list[Record]:
     """The records of lines, by rising key: a TAB is below all that a key has. The first of them has that number."""
     if not lines[-1].endswith(b"\n"):
         lines[-1] += b"\n"
     has_tabs = b"".join(lines).count(b"\t") >= len(lines)
-    records: list[Record] = _LINE.findall(b"".join(sorted(lines if has_tabs else map(_with_tab, lines))))
+    records: list[Record] = _LINE.findall(b"".join(sorted(lines if has_tabs else map(with_tab, lines))))
     if len(records) < len(lines):
         raise _bad_line(lines, number)
     return records
@@ -257,7 +253,7 @@ def _records(lines: list[bytes], number: int) -> list[Record]:
 
 def _bad_line(lines: list[bytes], number: int) -> BadLine:
     """The first line that is no record."""
-    at, line = next((at, it[:-1]) for at, it in enumerate(lines, number) if not _LINE.fullmatch(_with_tab(it[:-1])))
+    at, line = next((at, it[:-1]) for at, it in enumerate(lines, number) if not _LINE.fullmatch(with_tab(it[:-1])))
     why = "a record has a key of 1 to 32 visible characters, none of them =, a TAB or the first =, and a value of 1 to 64"
     return BadLine(at, f"{shown(line[:60])} is no record: {why}")
 
@@ -266,7 +262,7 @@ def double_line(lines: Iterable[bytes], key: bytes) -> Optional[BadLine]:
     """The second line that has the key, where two have it."""
     first = 0
     for number, line in enumerate(lines, 1):
-        if line.startswith(key) and _with_tab(line).partition(b"\t")[0] == key:
+        if line.startswith(key) and with_tab(line).partition(b"\t")[0] == key:
             if first:
                 return BadLine(number, f"the key {shown(key)} stands in line {first} already")
             first = number

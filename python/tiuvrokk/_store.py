@@ -15,7 +15,8 @@ from types import TracebackType
 from typing import Any, NamedTuple, NoReturn, Optional, TypeVar, Union, overload
 
 from ._library import Call, Counts, Handle, Number, calls, holding_calls
-from ._mapping import MAX_PAGE, MAX_ROWS, RUN, Mapped, Runner, first_page, limited, most_of
+from ._grammar import MAX_RUN
+from ._mapping import MAX_PAGE, MAX_ROWS, Mapped, Runner, first_page, limited, most_of
 from ._records import GREATEST, SIZES, Key, Page, Place, Record, Records, Text, Value, bad_line, below, bytes_of, double_line
 from ._records import first_double, layout_of, lent, line_runs, packed, plain_text, range_of, runs_of, text_of
 from .errors import MAX_LIMIT, Absent, Bad, Closed, Exists, Status, Twice, WrongThread, bad_limit, bad_range, error_of
@@ -86,6 +87,10 @@ class Store(Runner["Transaction"]):
             _open.pop(id(self._handle), None)
             raise error_of(status)
 
+    def _leave_to_parent(self) -> None:
+        _open.pop(id(self._handle), None)
+        self._handle.at = None
+
     def close(self) -> None:
         """Gives back all memory, whatever is open. A store may be closed twice."""
         if self._handle.at:
@@ -123,7 +128,7 @@ class Store(Runner["Transaction"]):
     def transaction(self) -> Transaction:
         """Begins a transaction. As the head of a `with` block it commits at the end of the block, and aborts where an
         exception leaves the block. One that is dropped before its end is aborted, with a ResourceWarning."""
-        if self._thread != get_ident():
+        if self._thread != get_ident() or not self._handle.at:
             self._stay()
         if self._begun:
             self._abort_dropped()
@@ -172,14 +177,14 @@ class Store(Runner["Transaction"]):
             raise error_of(status)
         return Figures(*counts)
 
-    def load_file(self, path: Union[str, os.PathLike[str]], run: int = RUN) -> int:
+    def load_file(self, path: Union[str, os.PathLike[str]], run: int = MAX_RUN) -> int:
         """Loads the records of a file, all or none, in a transaction of its own, and answers how many they are. Each line is a
         record, as `amload` reads it: a key of 1 to 32 visible characters of ASCII, none of them `=`, a TAB or the first
         `=`, and a value of 1 to 64. Raises `BadLine`, and `Exists` where a key has a record. The file is read whole, unless its
         runs are to have another number of records."""
         self._use()
         with open(path, "rb") as file, self.transaction() as tx:
-            if _run(run) == RUN:
+            if _run(run) == MAX_RUN:
                 return tx._load_text(file.read())
             try:
                 return tx._load_runs(line_runs(file, run))
@@ -190,7 +195,8 @@ class Store(Runner["Transaction"]):
                 raise double_line(file, error.key) or error from None
 
     def _stay(self) -> None:
-        """Raises where another thread than the store's is at work."""
+        """Raises where another process opened the store, or another thread than the store's is at work."""
+        super()._stay()
         if self._thread != get_ident() and not self._is_shared:
             raise WrongThread(self._thread, get_ident())
 
@@ -384,7 +390,7 @@ class Transaction(Mapped):
             yield told[0]
             most = most - size if told[0] == size else 0
 
-    def load(self, records: Records, run: int = RUN) -> int:
+    def load(self, records: Records, run: int = MAX_RUN) -> int:
         """Adds the records of a mapping, or pairs, in any order, cut into runs of at most `run` records, each sorted and added
         as a whole. Answers how many records were added.
 
@@ -409,7 +415,7 @@ class Transaction(Mapped):
             raise ValueError(f"{length} bytes are no whole number of structs of {size}")
         if not number:
             return 0
-        if number > _LOCKED_RUNS * RUN:
+        if number > _LOCKED_RUNS * MAX_RUN:
             self.lock(b"", GREATEST, exclusive=True)
         self._read = None
         found, loaded = Key(), Number()
@@ -494,7 +500,7 @@ class Transaction(Mapped):
             raise bad_line(text)
         if not plain:
             return 0
-        if plain.count(b"\n") >= _LOCKED_RUNS * RUN:
+        if plain.count(b"\n") >= _LOCKED_RUNS * MAX_RUN:
             self.lock(b"", GREATEST, exclusive=True)
         self._read = None
         key, line, loaded = Key(), Number(), Number()
@@ -577,7 +583,7 @@ def _range(lo: Text, hi: Text) -> tuple[bytes, bytes]:
 def _run(run: int) -> int:
     """The most records of a run."""
     if index(run) < 1:
-        raise bad_limit(RUN, run)
+        raise bad_limit(MAX_RUN, run)
     return run
 
 

@@ -2,12 +2,29 @@
 
 from __future__ import annotations
 
+import os
 import select
 import socket
 from collections import deque
-from typing import Optional
+from typing import Optional, Union
 
+Path = Union[str, bytes, "os.PathLike[str]"]
 PIECE = 1 << 16
+
+
+def connected(port: Optional[int], path: Optional[Path], host: str, timeout: Optional[float]) -> Stream:
+    """A connection to a socket of the file system, where one is named, or else to a port."""
+    connection = socket.socket(socket.AF_UNIX) if path is not None else socket.create_connection((host, port or 0), timeout)
+    try:
+        if path is not None:
+            connection.settimeout(timeout)
+            connection.connect(os.fspath(path))
+        else:
+            connection.setsockopt(socket.IPPROTO_TCP, socket.TCP_NODELAY, 1)
+        return Stream(connection, timeout)
+    except BaseException:
+        connection.close()
+        raise
 
 
 class Stream:

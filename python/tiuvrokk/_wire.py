@@ -2,23 +2,14 @@
 
 from __future__ import annotations
 
-import os
 import re
-import socket
 from collections.abc import Sequence
-from typing import NamedTuple, Optional, Union
+from typing import NamedTuple, Optional
 
-from ._records import GREATEST, bytes_of
-from ._stream import Stream
-from .errors import Absent, Bad, Busy, Conflict, Error, Exists, Held, Lapsed, NoMark, NoTransaction, OutOfMemory
-from .errors import Refused, Status, TooMany, Twice, Unknown, Unreachable, bad_range, bad_text
-
-Path = Union[str, bytes, "os.PathLike[str]"]
-
-LEAST_KEY, GREATEST_KEY = b"!", b"~" * 32
-KEY = re.compile(rb"[!-<>-~]{1,32}")
-VALUE = re.compile(rb"[!-~]{1,64}")
-RECORDS = re.compile(rb"(?:[!-<>-~]{1,32}=[!-~]{1,64} )*")
+from ._stream import Path, connected
+from ._texts import Texts
+from .errors import Absent, Bad, Busy, Conflict, Disconnected, Error, Exists, Held, Lapsed, NoMark, NoTransaction, OutOfMemory
+from .errors import Refused, Status, TooMany, Twice, Unknown, Unreachable
 
 _LIMITS = {
     b"ERR TXS": Status.TOO_MANY_TX, b"ERR LOCKS": Status.TOO_MANY_LOCKS, b"ERR OPS": Status.TOO_MANY_OPS,
@@ -43,48 +34,14 @@ class Active(NamedTuple):
     """How many whole seconds ago its last line came."""
 
 
-def key_of(text: object) -> bytes:
-    """A key as lines have it."""
-    found = bytes_of(text)  # type: ignore[arg-type]
-    if not KEY.fullmatch(found):
-        raise bad_text("key", found)
-    return found
-
-
-def value_of(text: object) -> bytes:
-    """A value as lines have it."""
-    found = bytes_of(text)  # type: ignore[arg-type]
-    if not VALUE.fullmatch(found):
-        raise bad_text("value", found)
-    return found
-
-
-def ends_of(lo: object, hi: object) -> tuple[bytes, bytes]:
-    """The ends of a range as lines have them: the least and the greatest text stand for the least and the greatest key."""
-    given_low, given_high = bytes_of(lo), bytes_of(hi)  # type: ignore[arg-type]
-    low = key_of(given_low) if given_low else LEAST_KEY
-    high = GREATEST_KEY if given_high == GREATEST else key_of(given_high)
-    if low > high:
-        raise bad_range(low, high)
-    return low, high
-
-
-def below_key(key: bytes) -> bytes:
-    """The greatest key below another one; none, where that is the least."""
-    last = key[-1] - 1
-    if last < LEAST_KEY[0]:
-        return key[:-1]
-    return (key[:-1] + bytes([last - (last == b"="[0])])).ljust(32, b"~")
-
-
-def refusal(answer: bytes, line: bytes, transaction: int) -> Error:
+def refusal(answer: bytes, line: bytes = b"", transaction: int = 0, texts: Texts = Texts()) -> Error:
     """The exception for an answer that refuses a line."""
     word, _, rest = answer.partition(b" ")
-    key = line.split(b" ", 2)[1].partition(b"=")[0] if b" " in line else b""
+    key = texts.of_line(line.split(b" ", 2)[1].partition(b"=")[0] if b" " in line else b"")
     if word == b"BUSY" and _NUMBER.fullmatch(rest):
         return Busy(int(rest))
     if word == b"EXISTS":
-        return Exists(rest)
+        return Exists(texts.of_line(rest))
     if answer in (b"MISSING", b"NONE"):
         return Absent(key)
     if answer == b"NOMARK":
@@ -110,18 +67,7 @@ class Wire:
     later would be taken for others'. The other side then aborts what was active."""
 
     def __init__(self, port: Optional[int], path: Optional[Path], host: str, timeout: Optional[float]) -> None:
-        if path is None:
-            connection = socket.create_connection((host, port or 0), timeout)
-            connection.setsockopt(socket.IPPROTO_TCP, socket.TCP_NODELAY, 1)
-        else:
-            connection = socket.socket(socket.AF_UNIX, socket.SOCK_STREAM)
-            connection.settimeout(timeout)
-            try:
-                connection.connect(os.fspath(path))
-            except BaseException:
-                connection.close()
-                raise
-        self._stream = Stream(connection, timeout)
+        self._stream = connected(port, path, host, timeout)
         self.is_open = True
 
     def close(self) -> None:
@@ -133,6 +79,9 @@ class Wire:
         try:
             self._stream.send(b"".join([line + b"\n" for line in lines]))
             return [self._stream.line() for _ in lines]
+        except ConnectionError as error:
+            self.close()
+            raise Disconnected(str(error)) from error
         except BaseException:
             self.close()
             raise

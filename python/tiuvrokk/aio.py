@@ -8,25 +8,29 @@
 
     asyncio.run(main())
 
+`client = await tiuvrokk.aio.connect(port=7070)` does without a block, and `await client.close()` ends it.
+
 A client is one session, on a thread of its own. It has one transaction at a time: a task that begins another one waits for the end of
 the one before. What runs when its task is cancelled goes on, as the end of a block does, and the next call comes after it."""
 
 from __future__ import annotations
 
 import asyncio
-import itertools
-from collections.abc import AsyncIterator, Awaitable, Callable, Coroutine
+import os
+from collections.abc import AsyncIterator, Awaitable, Callable, Coroutine, Generator
 from concurrent.futures import ThreadPoolExecutor
 from contextlib import asynccontextmanager
+from contextvars import ContextVar
 from functools import partial, wraps
 from typing import TYPE_CHECKING, Any, Optional, TypeVar
 
 from . import _client
 from ._client import RemoteTransaction
-from ._mapping import MAX_TRIES, first_page, may_come_right, most_of, pause_after
+from ._mapping import first_page, most_of
 from ._records import GREATEST, Record, Text
-from ._wire import Path
-from .errors import Busy, Closed, Conflict, Held, Lapsed, TooMany
+from ._stream import Path
+from ._tries import MAX_TRIES, TRIED_AGAIN, Tries
+from .errors import Closed, Forked
 
 if TYPE_CHECKING:
     from typing_extensions import Concatenate, ParamSpec
@@ -34,6 +38,8 @@ if TYPE_CHECKING:
     Words = ParamSpec("Words")
 
 Result = TypeVar("Result")
+# The turns that a task, or one that began it, has at clients: it would wait for itself.
+_turns: ContextVar[tuple[object, ...]] = ContextVar("_turns", default=())
 
 
 def _awaited(call: Callable[Concatenate[RemoteTransaction, Words], Result]) -> Callable[Concatenate[Transaction, Words], Coroutine[Any, Any, Result]]:
@@ -71,6 +77,37 @@ class Transaction:
                 yield row
             left -= len(rows[:left])
 
+    def items(self, lo: Text = b"", hi: Text = GREATEST) -> AsyncIterator[Record]:
+        """The records of `scan`."""
+        return self.scan(lo, hi)
+
+    async def keys(self, lo: Text = b"", hi: Text = GREATEST) -> AsyncIterator[bytes]:
+        """The keys of `scan`."""
+        async for key, _ in self.scan(lo, hi):
+            yield key
+
+    async def values(self, lo: Text = b"", hi: Text = GREATEST) -> AsyncIterator[bytes]:
+        """The values of `scan`."""
+        async for _, value in self.scan(lo, hi):
+            yield value
+
+    async def number(self) -> int:
+        """The number by which `Busy.holder` names the transaction."""
+        return await self._client._called(lambda: self._tx.number)
+
+    @asynccontextmanager
+    async def savepoint(self) -> AsyncIterator[None]:
+        """A block whose writes are taken back where an exception leaves it, as `tiuvrokk.RemoteTransaction.savepoint` has it."""
+        block = self._tx.savepoint()
+        await self._client._called(block.__enter__)
+        try:
+            yield
+        except BaseException as error:
+            if not await asyncio.shield(self._client._called(partial(block.__exit__, type(error), error, error.__traceback__))):
+                raise
+        else:
+            await self._client._called(partial(block.__exit__, None, None, None))
+
     async def delete_range(self, lo: Text = b"", hi: Text = GREATEST, limit: Optional[int] = None) -> int:
         """Takes the records from `lo` to `hi` away, both included, the first `limit` of them, or all. Answers how many went."""
         return await self._client._called(partial(self._tx.delete_range, lo, hi, limit))
@@ -83,26 +120,39 @@ class Transaction:
 
 
 class Client:
-    """A session, as `tiuvrokk.connect` makes one, which is connected at the head of an `async with` block."""
+    """A session, as `tiuvrokk.connect` makes one, which is connected at the head of an `async with` block, or where it is awaited."""
 
-    def __init__(self, port: Optional[int] = None, path: Optional[Path] = None, *, host: str = "127.0.0.1", timeout: Optional[float] = 120.0) -> None:
-        self._connect = partial(_client.connect, port, path, host=host, timeout=timeout, check_same_thread=False)
+    def __init__(
+        self, port: Optional[int] = None, path: Optional[Path] = None, *, host: str = "127.0.0.1", timeout: Optional[float] = 120.0,
+        escape: bool = False,
+    ) -> None:
+        self._connect = partial(_client.connect, port, path, host=host, timeout=timeout, check_same_thread=False, escape=escape)
         self._client: Optional[_client.Client] = None
-        self._task: Optional[asyncio.Task[Any]] = None  # (whose turn it is)
+        self._has: Optional[object] = None  # (whose turn it is)
+        self._process = os.getpid()
 
     async def __aenter__(self) -> Client:
         self._thread, self._turn = ThreadPoolExecutor(1), asyncio.Lock()
         self._client = await self._called(self._connect)
         return self
 
+    def __await__(self) -> Generator[Any, None, Client]:
+        return self.__aenter__().__await__()
+
     async def __aexit__(self, *_: object) -> None:
+        await self.close()
+
+    async def close(self) -> None:
+        """Ends the session; a transaction that is active is aborted. A client may be closed twice."""
         client, self._client = self._client, None
         if client:
             await self._called(client.close)
-        self._thread.shutdown(wait=False)
+            self._thread.shutdown(wait=False)
 
     async def _called(self, call: Callable[[], Result]) -> Result:
         """What a call answers, which is made on the client's thread."""
+        if self._process != os.getpid():
+            raise Forked
         return await asyncio.get_running_loop().run_in_executor(self._thread, call)
 
     @asynccontextmanager
@@ -110,14 +160,16 @@ class Client:
         """A block in which no other task uses the client."""
         if self._client is None:
             raise Closed
-        if self._task is asyncio.current_task():
-            raise RuntimeError("this task has a transaction of the client already")
+        if self._has in _turns.get():
+            raise RuntimeError("a transaction of the client is open around this one: use that one, or another client")
         async with self._turn:
-            self._task = asyncio.current_task()
+            self._has = turn = object()
+            _turns.set((*_turns.get(), turn))
             try:
                 yield self._client
             finally:
-                self._task = None
+                self._has = None
+                _turns.set(tuple(it for it in _turns.get() if it is not turn))
 
     @asynccontextmanager
     async def transaction(self) -> AsyncIterator[Transaction]:
@@ -138,15 +190,15 @@ class Client:
 
     async def run(self, function: Callable[[Transaction], Awaitable[Result]], tries: int = MAX_TRIES) -> Result:
         """As `tiuvrokk.Client.run`, with a function whose answer is awaited."""
-        for tried in itertools.count(1):
+        tried = Tries(tries)
+        while True:
+            tried.begin()
             try:
                 async with self.transaction() as tx:
                     return await function(tx)
-            except (Busy, Conflict, Held, Lapsed, TooMany) as error:
-                if tried >= tries or not may_come_right(error):
-                    raise
-            await asyncio.sleep(pause_after(tried))
-        raise AssertionError("not reached")
+            except TRIED_AGAIN as error:
+                pause = tried.pause_after(error)
+            await asyncio.sleep(pause)
 
     async def ask(self, function: Callable[[_client.Client], Result]) -> Result:
         """What a function answers of the plain client, as `await client.ask(lambda it: it.load(records))`, beside no transaction."""

@@ -240,6 +240,24 @@ class Lapsed(Refused):
     """A server aborted the transaction, since no line of its session came for too long. It may begin anew."""
 
 
+class Forked(Closed, RuntimeError):
+    """The store was opened, or the client connected, by another process, and a fork of that has none of them."""
+
+    def _text(self) -> str:
+        return "another process opened it, and a fork of that has none: open one, or connect, behind the fork"
+
+
+class Disconnected(Error, ConnectionError):
+    """The connection to a server or a replica was lost, before COMMIT was sent: `run` begins anew, by another connection."""
+
+    def __init__(self, why: str) -> None:
+        super().__init__(why)
+        self.why = why
+
+    def _text(self) -> str:
+        return self.why
+
+
 class WrongThread(Error, RuntimeError):
     """The store belongs to another thread, which opened it: `opener` and `user` are the two, as `threading.get_ident` has
     them. The library wasn't asked."""

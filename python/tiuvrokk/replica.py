@@ -18,7 +18,7 @@ from typing import Any, Optional
 
 from ._client import Client
 from ._client import RemoteTransaction as Transaction
-from ._mapping import MAX_TRIES
+from ._tries import MAX_TRIES
 from .errors import Conflict, Refused, Unknown, Unreachable
 
 __all__ = ["Session", "Transaction", "Refused", "Conflict", "Unreachable", "Unknown", "MAX_TRIES"]

@@ -4,26 +4,23 @@ from __future__ import annotations
 import re
 from typing import FrozenSet
 
+from tiuvrokk._grammar import GREATEST_KEY, KEY_TEXT, LEAST_KEY, MAX_HOLD, MAX_LINE, VALUE_TEXT
 from tiuvrokk_tools.verbs import STAGING, Kind, words_of
 
-# The longest line, without its LF.
-LONGEST = 4096
-# Milliseconds of the longest HOLD.
-LONGEST_HOLD = 60_000
 # Bytes that no answer goes beyond but rows.
 LONGEST_SHORT = 110
 # Those of a row, and of an answer of most rows.
 ROW = 98
 MOST_ROWS = LONGEST_SHORT + 1000 * ROW
 # The range of all keys.
-EVERYTHING = b"! " + b"~" * 32
+EVERYTHING = LEAST_KEY + b" " + GREATEST_KEY
 # Lines that write nothing, whatever they are answered.
 READS: FrozenSet[bytes] = frozenset(word.encode() for word in words_of(Kind.READS))
 # A request of HTTP: two words or more and a version; how those lines begin that may end so too.
 REQUEST = re.compile(rb"[\t\f\r ]*[^\t\f\r ]+[\t\f\r ]+[^\t\f\r ].*[\t\f\r ]http/[0-9][0-9.]*[\t\f\r ]*", re.IGNORECASE | re.DOTALL)
 # A key, a record, and lines that surely are operations: one that reads, those that write so many records, and all (whose
 # range has the least key first).
-KEY, VALUE = rb"[!-<>-~]{1,32}", rb"[!-~]{1,64}"
+KEY, VALUE = KEY_TEXT, VALUE_TEXT
 READING = b"GET " + KEY
 # How lines begin that may make a run. (What stands before them in an entry may be any byte, and a key may end like such a word.)
 LOADING = {verb + b" ": re.compile(b"%b %b=" % (verb, KEY)) for verb in sorted(STAGING)}
@@ -53,7 +50,7 @@ def is_of_http(line: bytes) -> bool:
     """Whether a line is one of HTTP: a request, or the header that names a host. The same as a server of am_serve_connections has it."""
     if line[:5].lower() == b"host:":
         return True
-    return len(line) <= LONGEST and not line.startswith(OWN_FRONTS) and REQUEST.fullmatch(line) is not None
+    return len(line) <= MAX_LINE and not line.startswith(OWN_FRONTS) and REQUEST.fullmatch(line) is not None
 
 
 def is_sure(line: bytes) -> bool:
@@ -76,5 +73,5 @@ def answer_apart(line: bytes, is_active: bool) -> bytes:
     if is_active:
         return b"ERR ACTIVE"
     if word == b"HOLD":
-        return b"OK" if 0 < int(count) <= LONGEST_HOLD else b"ERR LIMIT"
+        return b"OK" if 0 < int(count) <= MAX_HOLD else b"ERR LIMIT"
     return b"ERR NOTX"

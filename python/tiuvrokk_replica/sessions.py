@@ -6,8 +6,10 @@ import re
 import time
 from typing import Awaitable, Callable, Dict, List, Optional, Tuple, Union
 
+from tiuvrokk._grammar import MAX_LINE
+
 from .entries import Block
-from .lines import LONGEST, READING, is_of_http, is_sure, may_have_http, writing
+from .lines import KEY, READING, is_of_http, is_sure, may_have_http, writing
 from .replica import Outcome, Replica
 from .transaction import LIMIT, UNREACHABLE, Transaction
 
@@ -18,7 +20,7 @@ TEXT = b"\t\n\f\r" + bytes(range(32, 127))
 # Bytes of whole transactions that were sent ahead, for one entry.
 AHEAD = 500_000
 # Whole transactions that read a few records, which may go to the store as they stand.
-READS_AHEAD = re.compile(rb"(?:BEGIN\n(?:(?:GET [!-<>-~]{1,32}|R?SCAN [!-<>-~]{1,32} [!-<>-~]{1,32} [1-9])\n)*COMMIT\n)+")
+READS_AHEAD = re.compile(b"(?:BEGIN\n(?:(?:%b|R?SCAN %b %b [1-9])\n)*COMMIT\n)+" % (READING, KEY, KEY))
 # A whole transaction that reads and writes records by lines that surely do, and that are not too long: these, one of which writes.
 WRITES = re.compile(
     rb"BEGIN\n((?:{reading}\n)*{writing}\n(?:(?:{reading}|{writing})\n)*)COMMIT\n"
@@ -177,7 +179,7 @@ class Session:
             end = text.find(b"\n", at)
             if end < 0 and not is_last or at == len(text):
                 break
-            line = text[at:end] if end >= 0 else text[at:at + LONGEST + 1]
+            line = text[at:end] if end >= 0 else text[at:at + MAX_LINE + 1]
             at = end + 1 if end >= 0 else len(text)
             if looks and is_of_http(line):
                 await self.answer_all()
@@ -185,7 +187,7 @@ class Session:
                 return None
             if not await self.take(line):
                 return None
-        return text[at:at + LONGEST + 1]
+        return text[at:at + MAX_LINE + 1]
 
     async def take_writes(self, text: bytes, at: int) -> int:
         """Whole transactions that stand in the text, whose lines are answered in their blocks' places; where they end."""
@@ -200,7 +202,7 @@ class Session:
 
     async def take(self, line: bytes) -> bool:
         """One line; whether the session goes on."""
-        if len(line) > LONGEST:
+        if len(line) > MAX_LINE:
             await self.answer_all()
             self.out.append(b"ERR LONG")
             return True

@@ -6,6 +6,8 @@ import re
 import stat
 from typing import List, Set
 
+from tiuvrokk._grammar import KEY_TEXT
+
 try:
     import readline
 except ImportError:  # (some builds of Python have none: then nothing is completed and nothing kept)
@@ -13,8 +15,8 @@ except ImportError:  # (some builds of Python have none: then nothing is complet
 
 MOST_KEYS = 100_000
 MOST_LINES = 1000
-KEY = re.compile(rb"(?<= )[!-<>-~]{1,32}(?==)")
-ASKED = re.compile(rb"(?:GET|INS|REP|SET|DEL) ([!-<>-~]{1,32})")
+KEY = re.compile(b"(?<= )%b(?==)" % KEY_TEXT)
+ASKED = re.compile(b"(?:GET|INS|REP|SET|DEL) (%b)" % KEY_TEXT)
 
 
 class Completion:

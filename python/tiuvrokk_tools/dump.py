@@ -18,7 +18,9 @@ import os
 import stat
 from typing import Callable, Iterator, List, Optional
 
-from .escapes import unescaped_lines
+from tiuvrokk._escapes import unescaped_lines
+from tiuvrokk._grammar import GREATEST_KEY, LEAST_KEY
+
 from .holding import Tries, add_holding, hold, tries_of
 from .program import Parser, Stop, add_server, run_program, write_all
 from .progress import Progress
@@ -37,8 +39,6 @@ HOLD_MILLIS = 2000
 TRIES = 8
 ROWS = 1000
 MOST_SCANS = 4000
-LEAST = b"!"
-GREATEST = b"~" * 32
 
 
 def wanted_answer(session: Session, line: bytes, wanted: bytes) -> bytes:
@@ -49,7 +49,7 @@ def wanted_answer(session: Session, line: bytes, wanted: bytes) -> bytes:
     return answer[len(wanted) + 1 :]
 
 
-def scans(session: Session, lowest: bytes = LEAST, greatest: bytes = GREATEST) -> Iterator[List[bytes]]:
+def scans(session: Session, lowest: bytes = LEAST_KEY, greatest: bytes = GREATEST_KEY) -> Iterator[List[bytes]]:
     """The rows of each scan, in a transaction. Each goes on from the last row's key, which comes once more. The first one
     locks the whole range, so all are of one moment."""
     repeated = 0
@@ -98,7 +98,7 @@ class Pages:
         self.lock()
 
     def lock(self) -> None:
-        answer = self.session.ask(b"LOCK S %b %b" % (LEAST, GREATEST))
+        answer = self.session.ask(b"LOCK S %b %b" % (LEAST_KEY, GREATEST_KEY))
         if answer != b"OK":
             raise Refused(answer)
 
@@ -116,9 +116,9 @@ class Pages:
 
     def rows(self) -> Iterator[List[bytes]]:
         """The rows of each scan. Each goes on from the last row's key, which comes once more."""
-        lowest, repeated, scans_left = LEAST, 0, MOST_SCANS
+        lowest, repeated, scans_left = LEAST_KEY, 0, MOST_SCANS
         while True:
-            line = b"SCAN %b %b %d" % (lowest, GREATEST, ROWS)
+            line = b"SCAN %b %b %d" % (lowest, GREATEST_KEY, ROWS)
             number, *rows = wanted_answer(self.session, line, b"ROWS").split(b" ")
             yield rows[repeated:]
             if number != b"%d" % ROWS:

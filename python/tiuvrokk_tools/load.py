@@ -22,11 +22,13 @@ import gc
 import itertools
 from typing import Iterable, Iterator, Tuple
 
+from tiuvrokk._grammar import MAX_RUN
+from tiuvrokk.errors import MAX_KEY, MAX_VALUE
+
 from .holding import Tries, add_holding, hold, tries_of
 from .pieces import Pieces, Reading
 from .program import Parser, Stop, add_server, numbers, run_program, say, write_all
 from .progress import Progress
-from .records import MAX_KEY, MAX_RUN, MAX_VALUE
 from .sessions import Refused, Session, names_server, with_server
 
 EPILOG = """status:

@@ -13,9 +13,14 @@ from bisect import bisect_left
 from collections import Counter
 from typing import IO, BinaryIO, Callable, Dict, Iterator, List, NamedTuple, Optional, Tuple
 
-from .escapes import cut, escaped_key, escaped_value
+from tiuvrokk._escapes import cut, escaped_key, escaped_value
+from tiuvrokk._grammar import MAX_LOCKS, MAX_OPERATIONS, MAX_RUN, RECORD, RECORDS, fault_of, staged, with_tab
+
 from .program import CLOSED, Stop, visible
-from .records import MAX_LOCKED_RUNS, MAX_RUN, MAX_RUNS, RECORD, RECORDS, SHOWN, fault_of, lines_of, with_tab
+
+# A transaction's operations are a lock and the loads. Each load has a lock of its own, unless one covers them all.
+MAX_RUNS = MAX_OPERATIONS - 1
+SHOWN = 60
 
 # Hashes of keys are compared by at most so many parts of their range, one after another.
 PARTS = 64
@@ -91,7 +96,7 @@ def piece_of(text: bytes, first: int, reading: Reading) -> Piece:
 def record_of(line: bytes, reading: Reading) -> bytes:
     """A line as a record, with a TAB behind its key, as far as it is one."""
     key, separator, value = with_tab(line).partition(b"\t")
-    if reading.escapes:
+    if reading.escapes and separator:
         key, value = escaped_key(key), escaped_value(value)
     if reading.key_bytes:
         key = cut(key, reading.key_bytes, reading.escapes)
@@ -126,6 +131,12 @@ def run_of(records: List[bytes], verb: bytes) -> Run:
     lines = lines_of(records, verb)
     size = sum(map(len, records)) + len(records)
     return Run(len(records), min(records), max(records), size, hashes.tobytes(), lines)
+
+
+def lines_of(records: List[bytes], verb: bytes) -> bytes:
+    """The lines that stage the records of one run and load, or put, the last of them. TAB is below all that a key may have, so
+    records stand in the order of their keys."""
+    return b"".join(line + b"\n" for line in staged(sorted(records), verb)).replace(b"\t", b"=")
 
 
 class Helper:
@@ -347,7 +358,7 @@ class Pieces:
 
     def lock(self) -> bytes:
         """Where there are more runs than a transaction has locks, one lock covers all of them."""
-        return self.whole_lock() if len(self.runs) > MAX_LOCKED_RUNS else b""
+        return self.whole_lock() if len(self.runs) > MAX_LOCKS else b""
 
     def whole_lock(self) -> bytes:
         """The line that locks the range of all keys."""

@@ -6,7 +6,8 @@ import socket
 import subprocess
 from typing import IO, Optional, Protocol, Sequence
 
-from tiuvrokk._stream import Stream
+from tiuvrokk._stream import connected
+from tiuvrokk._wire import refusal
 
 from .program import Stop, visible
 
@@ -35,7 +36,7 @@ class Refused(Exception):
 
     def __init__(self, answer: bytes) -> None:
         super().__init__(f"answered {shown(answer)}")
-        self.answer = answer
+        self.answer, self.error = answer, refusal(answer)
 
 
 class Connected(Protocol):
@@ -119,18 +120,10 @@ def names_server(asked: argparse.Namespace) -> bool:
 def with_server(asked: argparse.Namespace) -> Session:
     """A session with the server that the words name."""
     place = asked.socket or f"port {asked.port}"
-    connection = socket.socket(socket.AF_UNIX if asked.socket is not None else socket.AF_INET)
-    connection.settimeout(asked.wait)
     try:
-        if asked.socket is not None:
-            connection.connect(asked.socket)
-        else:
-            connection.connect(("127.0.0.1", asked.port))
-            connection.setsockopt(socket.IPPROTO_TCP, socket.TCP_NODELAY, 1)
+        return Session(place, connected(asked.port, asked.socket, "127.0.0.1", asked.wait))
     except OSError as error:
-        connection.close()
         raise fault_of(place, error) from None
-    return Session(place, Stream(connection, asked.wait))
 
 
 class Pipes:

@@ -26,10 +26,12 @@ import sys
 import time
 from typing import Callable, Dict, Iterator, List, Optional
 
+from tiuvrokk._escapes import unescaped
+from tiuvrokk._grammar import GREATEST_KEY, LEAST_KEY
+
 from . import TOP
 from .completion import Completion
-from .dump import GREATEST, HOLD_MILLIS, LEAST, Output, Pages, dump_all, dump_rows, scans
-from .escapes import unescaped
+from .dump import HOLD_MILLIS, Output, Pages, dump_all, dump_rows, scans
 from .holding import Tries, hold
 from .load import load_held, load_runs
 from .pieces import Pieces, Reading
@@ -310,7 +312,7 @@ class Shell:
         """Counts the records, or those of a range, by a transaction of its own, where none is active."""
         is_one = len(words_of(words)) == 1 if self.escapes else " " not in words
         ends = f"{words} {words}" if words and is_one else words
-        lock, tries = self.spelled(f"LOCK S {ends}") if words else b"LOCK S %b %b" % (LEAST, GREATEST), Tries(TRIES)
+        lock, tries = self.spelled(f"LOCK S {ends}") if words else b"LOCK S %b %b" % (LEAST_KEY, GREATEST_KEY), Tries(TRIES)
 
         def begin() -> None:
             hold(self.session, tries.part_of(HOLD_MILLIS))

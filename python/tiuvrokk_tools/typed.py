@@ -2,7 +2,8 @@
 
 from typing import List, Tuple
 
-from .escapes import escaped
+from tiuvrokk._escapes import escaped
+
 from .verbs import forms_of
 
 Word = List[Tuple[str, bool]]

@@ -1,5 +1,6 @@
 """Texts of any bytes as keys and values, which lines carry as visible ASCII: what isn't that stands as a percent sign and two digits
-of base 16, and so do the percent sign and, in a key, the equals sign. Keys that are escaped are ordered as they stand then."""
+of base 16, and so do the percent sign and, in a key, the equals sign. A text of no bytes is a percent sign alone. Keys that are
+escaped are ordered as they stand then."""
 
 import re
 from typing import Dict
@@ -10,17 +11,20 @@ _ESCAPE = re.compile(rb"%([0-9A-Fa-f]{2})")
 _ESCAPES: Dict[bytes, bytes] = {bytes([byte]): b"%%%02X" % byte for byte in range(256)}
 
 
+_EMPTY = b"%"
+
+
 def escaped_key(text: bytes) -> bytes:
-    return _IN_KEY.sub(lambda found: _ESCAPES[found.group()], text)
+    return _IN_KEY.sub(lambda found: _ESCAPES[found.group()], text) or _EMPTY
 
 
 def escaped_value(text: bytes) -> bytes:
-    return _IN_VALUE.sub(lambda found: _ESCAPES[found.group()], text)
+    return _IN_VALUE.sub(lambda found: _ESCAPES[found.group()], text) or _EMPTY
 
 
 def unescaped(text: bytes) -> bytes:
-    """What an escaped text stands for; a percent sign with no two digits behind it stands for itself."""
-    return _ESCAPE.sub(lambda found: bytes([int(found.group(1), 16)]), text)
+    """What an escaped text stands for; a percent sign that isn't alone, with no two digits behind it, stands for itself."""
+    return b"" if text == _EMPTY else _ESCAPE.sub(lambda found: bytes([int(found.group(1), 16)]), text)
 
 
 def escaped(text: bytes, is_key: bool) -> bytes:
