@@ -36,6 +36,7 @@
 #include <algorithm>
 #include <cstdint>
 #include <cstring>
+#include <initializer_list>
 #include <iterator>
 #include <memory>
 #include <new>
@@ -129,6 +130,9 @@ inline constexpr std::string_view GREATEST{"\xff\xff\xff\xff\xff\xff\xff\xff\xff
                                            "\xff\xff\xff\xff\xff\xff\xff\xff\xff\xff\xff\xff\xff\xff\xff\xff",
                                            TVK_MAX_KEY};
 
+/* A key and a value, as a program writes them down: {{"ant", "6"}, {"bee", "4"}}. */
+using Pair = std::pair<std::string_view, std::string_view>;
+
 /* The most records of a run, unless a load is told otherwise. */
 inline constexpr std::size_t RUN = 65536;
 
@@ -181,8 +185,19 @@ public:
         using iterator_category = std::input_iterator_tag;
         using value_type = Record;
         using difference_type = std::ptrdiff_t;
-        using pointer = const Record *;
         using reference = Record;
+
+        /* A record for as long as one of its views is asked for. */
+        class pointer {
+        public:
+            const Record *operator->() const noexcept { return &record_; }
+
+        private:
+            friend class iterator;
+            explicit pointer(const Record &record) : record_(record) {}
+
+            Record record_;
+        };
 
         iterator() = default;
 
@@ -190,6 +205,8 @@ public:
             const tvk_record &row = rows_->page_[rows_->at_];
             return {detail::view(row.key), detail::view(row.value)};
         }
+
+        pointer operator->() const { return pointer(**this); }
 
         iterator &operator++() {
             rows_->advance();
@@ -350,6 +367,8 @@ public:
         return load(std::begin(pairs), std::end(pairs), run);
     }
 
+    std::uint64_t load(std::initializer_list<Pair> pairs, std::size_t run = RUN) { return load(pairs.begin(), pairs.end(), run); }
+
     /* The same by the library's own sort, in runs of RUN, each record copied once: a key that stands twice anywhere throws Twice,
      * and nothing is added then. No pairs at all are refused, as TVK_NOT_RISING. `loaded` is told how many records were added
      * before a run that is refused. */
@@ -386,6 +405,10 @@ public:
      * it stay. A key that stands twice in a piece is refused, as TVK_NOT_RISING. */
     template <class Pairs> std::uint64_t put(Pairs &&pairs, std::size_t run = RUN) {
         return bring(std::begin(pairs), std::end(pairs), run, put_piece);
+    }
+
+    std::uint64_t put(std::initializer_list<Pair> pairs, std::size_t run = RUN) {
+        return bring(pairs.begin(), pairs.end(), run, put_piece);
     }
 
     /* The same by the library's own sort, in pieces of RUN; `done` is told how many records were put before a piece that is

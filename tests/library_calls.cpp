@@ -59,7 +59,7 @@ static void moved_and_closed() {
     expect(next.number() != number, "a transaction that is assigned to");
     next.insert("ant", "6");
     auto rows = next.scan();
-    expect((*rows.begin()).key == "ant", "a scan");
+    expect(rows.begin()->key == "ant" && rows.begin()->value == "6", "a scan");
     other.close();
     expect(!next.is_active(), "a transaction of a closed store");
     expect(thrown([&] { next.get("ant"); }) == TVK_NO_STORE, "a read in a closed store");
@@ -126,9 +126,19 @@ static void errors() {
     }
     std::vector<std::pair<std::string, const char *>> twice{{"b", "1"}, {"a", "2"}, {"b", "3"}};
     expect(thrown([&] { one.load(twice); }) == TVK_NOT_RISING, "a key that stands twice");
+    for (tvk_status status : {TVK_TOO_MANY_TX, TVK_TOO_MANY_LOCKS, TVK_TOO_MANY_OPS, TVK_TOO_MANY_RUNS})
+        expect(std::strchr(tvk_text(status), ':') != nullptr, "what helps where a bound is reached");
     std::vector<Transaction> many;
     expect(thrown([&] { for (;;) many.push_back(store.transaction()); }) == TVK_TOO_MANY_TX && many.size() == TVK_MAX_TX - 2,
            "as many transactions as there may be");
+}
+
+static void pairs_written_down() {
+    Store store;
+    Transaction tx = store.transaction();
+    expect(tx.load({{"bee", "1"}, {"ant", "6"}}) == 2 && tx.put({{"cat", "2"}, {"ant", "5"}}) == 2, "pairs that are written down");
+    expect(tx.load({{"dog", "3"}}) == 1 && tx.get("ant") == "5" && tx.get("cat") == "2" && tx.get("dog") == "3", "what they set");
+    expect(thrown([&] { tx.load({{"elk", "1"}, {"elk", "2"}}); }) == TVK_NOT_RISING, "one of them twice");
 }
 
 static void loads_and_scans() {
@@ -327,6 +337,7 @@ int main(int, char **words) {
     moved_and_closed();
     exceptions_abort();
     errors();
+    pairs_written_down();
     loads_and_scans();
     loads_in_any_order();
     puts_in_any_order();
