@@ -46,9 +46,12 @@ def served(folder: str) -> None:
         wanted("what all added", tx["count"], b"200")
     interrupts(server)
     asyncio.run(by_asyncio(server.port))
+    asyncio.run(without_block(server.port))
     dropped(server)
     lost(server)
     wrong_uses(server)
+    forked(server)
+    escaped(server)
     server.tell("STOP\n")
     server.closed()
 
@@ -123,6 +126,34 @@ async def by_asyncio(port: int) -> None:
         await cancelled(one, other)
     with contextlib.suppress(tiuvrokk.Closed):
         await one.run(lambda tx: tx.get("a"))
+        fail("a client goes on after its end")
+
+
+async def without_block(port: int) -> None:
+    """A client that is awaited, and ended by a call; blocks that would wait for themselves say so."""
+    client = await tiuvrokk.aio.connect(port=port)
+    async with client.transaction() as tx:
+        await tx.update(way1="1", way2="2")
+        wanted("its number", await tx.number() > 0, True)
+        with contextlib.suppress(ZeroDivisionError):
+            async with tx.savepoint():
+                await tx.put("way3", str(1 // 0))
+        async with tx.savepoint():
+            await tx.put("way4", "4")
+        wanted("its keys", [key async for key in tx.keys("way", "way~")], [b"way1", b"way2", b"way4"])
+        wanted("its values", [value async for value in tx.values("way", "way~")], [b"1", b"2", b"4"])
+        wanted("its items", [row async for row in tx.items("way4", "way~")], [(b"way4", b"4")])
+        for nested in (client.run(add_one), asyncio.gather(client.run(add_one)), asyncio.ensure_future(client.run(add_one))):
+            try:
+                await asyncio.wait_for(nested, 5)
+                fail("a transaction within another one of its client")
+            except RuntimeError as error:
+                wanted("what is wrong", "is open around this one" in str(error), True)
+    await asyncio.gather(client.run(add_one), client.run(add_one))
+    await client.close()
+    await client.close()
+    with contextlib.suppress(tiuvrokk.Closed):
+        await client.run(add_one)
         fail("a client goes on after its end")
 
 
@@ -237,6 +268,59 @@ def lost(server: Server) -> None:
             client._wire._stream._socket.shutdown(socket.SHUT_WR)
 
         raised(tiuvrokk.Unknown, lambda: client.run(cut_at_the_end))
+        tries: List[int] = []
+
+        def cut_once(tx: Any) -> None:
+            tries.append(tx.number)
+            if len(tries) == 1:
+                client._wire._stream._socket.shutdown(socket.SHUT_RDWR)
+            tx["lost"] = str(len(tries))
+
+        client.run(cut_once)
+        wanted("a connection that is lost before COMMIT", (len(tries), client["lost"]), (2, b"2"))
+        with client.transaction() as tx:
+            client._wire._stream._socket.shutdown(socket.SHUT_RDWR)
+            wanted("what is lost", isinstance(raised(tiuvrokk.Disconnected, lambda: tx.get("a")), ConnectionError), True)
+            raised(tiuvrokk.NoTransaction, tx.commit)
+            tx._is_over = True  # (so the block's end is none)
+
+
+def forked(server: Server) -> None:
+    """A fork has none of its parent's clients: each call raises at once, and the parent goes on in its transaction."""
+    with tiuvrokk.connect(port=server.port) as client, client.transaction() as tx:
+        tx["forked"] = "1"
+        child = os.fork()
+        if not child:
+            refused = [raised(tiuvrokk.Forked, call) for call in (client.transaction, lambda: tx.get("forked"), lambda: client.load({"a": "1"}))]
+            os._exit(len(refused))
+        wanted("what a fork is refused", os.waitstatus_to_exitcode(os.waitpid(child, 0)[1]), 3)
+        wanted("what its parent reads", tx["forked"], b"1")
+    with tiuvrokk.connect(port=server.port) as client:
+        wanted("what its parent wrote", client["forked"], b"1")
+
+
+ESCAPED = {"a key": "a value with blanks", "none": "", "": "of no key", "\u00fc=%": "\u00fc", "tab\tkey": "100 %", "%41": "%41"}
+
+
+def escaped(server: Server) -> None:
+    """Any bytes come back as they went, also none, by each call; what amdump --escape writes of them is what they were."""
+    with tiuvrokk.connect(port=server.port, escape=True) as client, tiuvrokk.connect(port=server.port) as plain:
+        plain.run(lambda tx: tx.delete_range())
+        with client.transaction() as tx:
+            wanted("a load", tx.load(ESCAPED), len(ESCAPED))
+            wanted("which of them is there", raised(tiuvrokk.Exists, lambda: tx.load({"b": "1", "a key": "2"})).key, b"a key")
+            wanted("which is none", raised(tiuvrokk.Absent, lambda: tx.replace("b c", "1")).key, b"b c")
+        encoded = {key.encode(): value.encode() for key, value in ESCAPED.items()}
+        with client.transaction() as tx:
+            wanted("all of them", (dict(tx), dict(tx.items()), [tx[key] for key in ESCAPED]), (encoded, encoded, list(encoded.values())))
+            wanted("a slice", tx["a":"b"], [(b"a key", encoded[b"a key"])])  # type: ignore[misc]
+            tx.update({f"more {number}": "" for number in range(70)})
+            wanted("what was put", (tx.count("more 0", "more 9"), tx["more 69"]), (70, b""))
+            wanted("what goes", (tx.delete_range("more 0", "more 9"), tx.pop("none"), "none" in tx), (70, b"", False))
+            wanted("too long with its escapes", raised(tiuvrokk.Bad, lambda: tx.get("\u00fc" * 6)).name, "TVK_BAD_KEY")
+        wanted("how lines have it", plain["a%20key"], b"a%20value%20with%20blanks")
+        wanted("a load of its own", client.load({"one more": "", "and more": " "}), 2)
+        plain.run(lambda tx: tx.delete_range())
 
 
 def wrong_uses(server: Server) -> None:
