@@ -11,9 +11,9 @@ _tiuvrokk_words() {
         esac
         ;;
     amaudit) echo '--records --open --help --version' ;;
-    amload) echo '--run --update --skip-empty --skip --escape --key-bytes --value-bytes --port --socket --wait --hold --tries --help --version' ;;
+    amload) echo '--run --update --last --csv --key --value --skip-empty --skip --escape --key-bytes --value-bytes --port --socket --wait --hold --tries --help --version' ;;
     amdump) echo '--escape --port --socket --wait --hold --tries --help --version' ;;
-    amcli) echo '--port --socket --wait --store --escape --raw --strict --history --help --version' ;;
+    amcli) echo '--port --socket --wait --store --escape --raw --json --csv --strict --lenient --command --history --help --version' ;;
     amdraw) echo '--text --help --version' ;;
     amreplica) echo '--port --log --reads --limit --snapshot --trace --stats --cacert --cert --key --user --help --version' ;;
     esac

@@ -248,10 +248,14 @@ lock s a z
 """
     shown = "OK\nOK\nkey  value\nant  6\nbee  7\n2 rows\nBEGUN 4\nOK\ndumped 1\nABORTED\n"
     shown += "ROWS 2 ant=6 bee=7\nNONE\ndumped 2\nERR NOTX\n"
-    wanted("lines of a pipe", shell(text=typed), (0, shown, ""))
+    said = "amcli: line 12: no transaction is active: BEGIN begins one\n"
+    wanted("lines of a pipe", shell(text=typed), (1, shown, said))
     said = "amcli: line 2: the key is missing: GET k is wanted\n"
     wanted("a bad line", shell(text="get a\nget\n"), (1, "NONE\nERR SYNTAX\n", said))
-    wanted("an error, strictly", shell("--strict", text="get a\ncommit\n"), (1, "NONE\nERR NOTX\n", ""))
+    said = "amcli: line 2: no transaction is active: BEGIN begins one\n"
+    for words, status, rest in (([], 1, ""), (["--strict"], 1, "NONE\n"), (["--lenient"], 0, "NONE\n")):
+        wanted(f"a line that fails {words}", shell(*words, text="get a\ncommit\nget a\n"), (status, f"NONE\nERR NOTX\n{rest}", said))
+    wanted("a line that fails in a transaction", shell(text="begin\nins a 1\nget\ncommit\n")[:2], (1, "BEGUN 1\nOK\nERR SYNTAX\n"))
     wanted("no error, strictly", shell("--strict", text="get a\n"), (0, "NONE\n", ""))
     with open(f"{path}.all", encoding="ascii") as file:
         wanted("the file of a dump", file.read(), "ant\t6\nbee\t7\n")
@@ -281,13 +285,33 @@ def what_is_wrong(folder: str) -> None:
         "load a": "a has no =: LOAD k=v k=v .. is wanted",
         "get \u00e9": "\\xe9 isn't visible ASCII (.escape on carries any bytes): GET k is wanted",
     }
-    status, _, said = shell(text="begin\n" + "".join(f"{line}\n" for line in wrong))
+    status, _, said = shell("--lenient", text="begin\n" + "".join(f"{line}\n" for line in wrong))
     wanted("what is wrong", said.splitlines(), [f"amcli: line {at}: {why}" for at, why in enumerate(wrong.values(), 2)])
     wanted("its status", status, 1)
     path = os.path.join(folder, "wrong")
     with open(path, "w", encoding="ascii") as file:
         file.write("ins a 1\n\nget\nget a\n")
-    wanted("a file", shell(text=f".read {path}\n"), (1, "OK\nERR SYNTAX\nVAL 1\n", f"amcli: {path}: line 3: the key is missing: GET k is wanted\n"))
+    said = f"amcli: {path}: line 3: the key is missing: GET k is wanted\n"
+    for words, rest in (([], ""), (["--lenient"], "VAL 1\n")):
+        wanted("a file", shell(*words, text=f".read {path}\n"), (1, f"OK\nERR SYNTAX\n{rest}", said))
+
+
+def words_of_the_command_line(folder: str) -> None:
+    """Lines that stand on the command line, records in any order, and what programs read of answers."""
+    path = os.path.join(folder, "table.csv")
+    with open(path, "w", encoding="utf-8") as file:
+        file.write('k,v\nimp 1,"a ""b"""\nimp2,\n')
+    lines = ["put b=2 a=1", "scan a b 3", "get a", "get c", "seen"]
+    ran = run(AMCLI, "--store", AMSERVE, "-c", lines[0], *lines[1:], text="get a\n")
+    wanted("lines of the command line", ran, (0, "OK\nkey  value\na    1\nb    2\n2 rows\nVAL 1\nNONE\nSEEN 0 4\n", ""))
+    shown = '"OK"\n[{"key": "a", "value": "1"}, {"key": "b", "value": "2"}]\n"1"\nnull\n"SEEN 0 4"\n'
+    wanted("JSON", shell("--json", *lines, text=""), (0, shown, ""))
+    wanted("CSV", shell("--csv", "--escape", f".import {path}", "scan a z 9", "get imp2", text=""), (0, 'loaded 2\nimp 1,"a ""b"""\nimp2,\n\n', ""))
+    wanted("what no line has", shell("--escape", f".import {path}", "get imp2", text="")[1], "loaded 2\nVAL \n")
+    wanted("a table that lines have no form for", shell(f".import {path}", text="")[0], 1)
+    for line, why in (("load a=1 a=2", "a key stands twice"), ("commit", "no transaction is active"), ("begin;begin", "a transaction is active")):
+        status, _, said = shell(*line.split(";"), text="")
+        wanted(f"why {line} fails", (status, why in said), (1, True))
 
 
 def any_text(folder: str) -> None:
@@ -526,6 +550,7 @@ def main() -> None:
         beside_others(folder)
         lines_of_a_pipe(folder)
         what_is_wrong(folder)
+        words_of_the_command_line(folder)
         any_text(folder)
         at_a_terminal(folder)
         server_comes_back(folder)

@@ -266,7 +266,7 @@ def clients() -> None:
             wanted("its transaction", tx.is_active, False)
         # (a worker may have taken the range that was read)
         wanted("a merge", client.merge() in (0, None), True)
-    shell = subprocess.Popen([AMCLI, "--port", str(server.port)], stdin=subprocess.PIPE, stdout=subprocess.PIPE, stderr=subprocess.PIPE, text=True)
+    shell = subprocess.Popen([AMCLI, "--lenient", "--port", str(server.port)], stdin=subprocess.PIPE, stdout=subprocess.PIPE, stderr=subprocess.PIPE, text=True)
     if shell.stdin:
         shell.stdin.write("BEGIN\nINS c 3\n")
         shell.stdin.flush()

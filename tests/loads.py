@@ -92,18 +92,47 @@ def refusals(folder: str) -> None:
     wanted("a full disk", (run.returncode, run.stderr), (6, "amload: standard output: No space left on device\n"))
 
 
+def last_ones() -> None:
+    """Of lines with one key the last one counts, in whichever runs they come."""
+    said = "amload: 1 line passed over: 1 since its key stands in a line behind, whose value stays\n"
+    for run, lines in (("3", "LOAD a=3 b=2\n"), ("1", "LOAD a=3\nLOAD b=2\n")):
+        wanted(f"runs of {run}", amload("--last", "--run", run, text="a=1\nb=2\na=3\n"), (0, f"BEGIN\n{lines}COMMIT\n", said))
+    text = "".join(f"{number % 100_000:06}={number}\n" for number in range(100_001))
+    status, out, told = amload("--last", text=text)
+    wanted("a key of two runs", (status, out.count("="), " 000000=0 " in out, "000000=100000" in out, told), (0, 100_000, False, True, said))
+    wanted("no other fault", amload("--last", text="a=1\na\n")[0], 3)
+
+
+def tables() -> None:
+    """Comma separated values, by the columns that are asked for."""
+    text = 'n,what,value\r\n1,"a ""b"",",x\r\n\r\n2,"c\nd",\r\n'
+    wanted("any text", amload("--csv", "--escape", "--key", "what", "--value", "3", text=text), (0, 'BEGIN\nLOAD a%20"b",=x c%0Ad=%\nCOMMIT\n', ""))
+    wanted("columns by their names", amload("--csv", text="value,key\n1,a\n"), (0, "BEGIN\nLOAD a=1\nCOMMIT\n", ""))
+    wanted("the first two", amload("--csv", text="k,v\na,1\nb,2\n"), (0, "BEGIN\nLOAD a=1 b=2\nCOMMIT\n", ""))
+    for words, text, status, said in (
+        (["--csv"], "k,v\na,1\nb c,2\n", 3, 'line 3 "b c\\t2": it has a blank'), (["--csv"], "k,v\na\n", 3, 'line 2 "a\\t": the value is empty'),
+        (["--csv"], "k,v\na,1\na,2\n", 3, "line 3: the key a stands in line 2 already"), (["--csv", "--key", "q"], "k,v\n", 2, "there is no column q: the first line has k, v"),
+        (["--csv"], '"k,v\n', 3, "line 1 is none of comma separated values: unexpected end of data"), (["--csv"], "", 0, "no records"),
+    ):
+        wanted(f"{text!r}", amload(*words, text=text), (status, "", f"amload: {said}\n"))
+    wanted("columns of no table", amload("--key", "a", text="")[:2], (2, ""))
+    run = [sys.executable, AMLOAD, "--csv", "--skip"]
+    piped = subprocess.run(run, input="k,v\n" + "".join(f"{it:06},{it}\n" for it in range(150_000)) + "x y,1\n", capture_output=True, text=True, timeout=LIMIT, check=False)
+    wanted("a large one", (piped.returncode, piped.stdout.count("="), piped.stderr), (0, 150_000, "amload: 1 line passed over: 1 since it has a blank\n"))
+
+
 def real_text() -> None:
     """Texts as they stand: blanks, other alphabets, keys that are too long, keys that come twice."""
     text = "New York\t8 million people = many\nna\u00efve=50%\n\na\n=x\n" + "k" * 40 + "\tv\nNew York\tagain\nv\t" + "w" * 70 + "\nx=y\tz\n"
-    said = "amload: 6 lines passed over: 1 since it is empty, 1 since it has no separator, 1 since the key is empty, "
-    said += "1 since its key is too long, 1 since its value is too long, 1 since its key stands in a line before\n"
-    right = "BEGIN\nLOAD New%20York=8%20million%20people%20=%20many na%C3%AFve=50%25 x%3Dy=z\nCOMMIT\n"
+    said = "amload: 5 lines passed over: 1 since it is empty, 1 since it has no separator, "
+    said += "1 since its key is too long, 1 since its value is too long, 1 since its key stands in a line before, whose value stays\n"
+    right = "BEGIN\nLOAD %=x New%20York=8%20million%20people%20=%20many na%C3%AFve=50%25 x%3Dy=z\nCOMMIT\n"
     wanted("real text", amload("--escape", "--skip", text=text), (0, right, said))
     status, out, said = amload("--escape", "--skip", "--key-bytes", "8", "--value-bytes", "7", text=text)
-    right = "BEGIN\nLOAD New%20Yo=8%20mil kkkkkkkk=v na%C3%AF=50%25 v=wwwwwww x%3Dy=z\nCOMMIT\n"
-    wanted("what is cut", (status, out, said[:29]), (0, right, "amload: 4 lines passed over: "))
+    right = "BEGIN\nLOAD %=x New%20Yo=8%20mil kkkkkkkk=v na%C3%AF=50%25 v=wwwwwww x%3Dy=z\nCOMMIT\n"
+    wanted("what is cut", (status, out, said[:29]), (0, right, "amload: 3 lines passed over: "))
     wanted("a line that doesn't fit", amload("--escape", text="a b=1\nc\n")[2], 'amload: line 2 "c": it has no separator: neither a TAB nor a =\n')
-    wanted("what is escaped comes back", unescaped_lines(right.encode()[11:].replace(b"=", b"\t", 1))[:8], b"New Yo\t8")
+    wanted("what is escaped comes back", unescaped_lines(right.encode()[15:].replace(b"=", b"\t", 1))[:8], b"New Yo\t8")
     for words in (("--key-bytes", "33"), ("--value-bytes", "0")):
         wanted(f"the words {words}", amload(*words, text="")[:2], (2, ""))
     # Whatever the bytes are, they come back, but for the ends of lines and a TAB in a key.
@@ -137,7 +166,7 @@ def many_pieces(folder: str) -> None:
     with open(path) as file:
         wanted("the same of a pipe", amload("--skip-empty", text=file.read()), (3, "", told))
     status, out, said = amload("--skip", path)
-    wanted("the first one stays", (status, out.count("="), out.count("k00007919=v"), said), (0, number, 1, "amload: 1 line passed over: 1 since its key stands in a line before\n"))
+    wanted("the first one stays", (status, out.count("="), out.count("k00007919=v"), said), (0, number, 1, "amload: 1 line passed over: 1 since its key stands in a line before, whose value stays\n"))
     with open(path, "a") as file:
         file.write("a b\tw\n" * 3)
     wanted("bad lines", amload("--skip-empty", path), (3, "", f'amload: line {number + 3} "a b\\tw": it has a blank; 2 more such lines\n'))
@@ -376,6 +405,8 @@ def main() -> None:
     subprocess.run([AMSERVE, "--help"], stdout=subprocess.DEVNULL, check=True)
     lines_of_files()
     updates()
+    last_ones()
+    tables()
     real_text()
     most_staged()
     read_at_the_end()

@@ -6,7 +6,8 @@ the server there, and the transaction is committed only where every line was ans
 
     (./amload data.tsv; cat queries) | ./amserve alone
 
-A record that is there already is refused with all others; with --update it gets the new value.
+A record that is there already is refused with all others; with --update it gets the new value. With --csv FILE has comma separated
+values.
 
 It holds a server first: nobody else begins meanwhile, so no lock is in the way of the load, and readers wait as
 long as it takes. Where another holds, or a transaction doesn't end in time, it tries again.
@@ -14,7 +15,8 @@ long as it takes. Where another holds, or a transaction doesn't end in time, it 
 A key is 1 to 32 visible characters of ASCII, none of them =, a value 1 to 64. The first line that is no record is told with
 its number, its text, why it is none, and how many more there are; so is a key that stands twice. Then nothing is sent. An
 empty last line is passed over. With --escape other bytes are carried by percent signs, as %20 for a blank; --skip passes over
-what doesn't fit, and says how many lines those were, and why. What is sent waits in a file without a name until all was read,
+what doesn't fit, and says how many lines those were, and why: of lines with one key the first counts then, and with --last the
+last. What is sent waits in a file without a name until all was read,
 where the environment's TMPDIR says. Where standard error is a terminal it says how far the load is. Python 3.9 is needed."""
 
 import argparse
@@ -30,6 +32,7 @@ from .pieces import Pieces, Reading
 from .program import Parser, Stop, add_server, numbers, run_program, say, write_all
 from .progress import Progress
 from .sessions import Refused, Session, names_server, with_server
+from .tables import Columns
 
 EPILOG = """status:
   0  at a server: committed, or there were no records; else: all lines were written
@@ -133,15 +136,30 @@ def words() -> argparse.Namespace:
     run = f"records of a run, 1 to {MAX_RUN} (default: {MAX_RUN})"
     parser.add_argument("--run", type=numbers(1, MAX_RUN), default=MAX_RUN, metavar="N", help=run)
     parser.add_argument("--update", action="store_true", help="records that are there get the new values")
+    parser.add_argument("--last", action="store_true", help="of lines with one key the last one counts, and how many others there are is said")
+    parser.add_argument("--csv", action="store_true", help="FILE has comma separated values, below a line with the columns' names")
+    column = "the column of the %s, by its name or its number from 1 (default: %s, or else number %d)"
+    parser.add_argument("--key", metavar="C", help=column % ("keys", "key", 1))
+    parser.add_argument("--value", metavar="C", help=column % ("values", "value", 2))
     parser.add_argument("--skip-empty", action="store_true", help="pass over empty lines")
-    parser.add_argument("--skip", action="store_true", help="pass over lines that are no record, or have a key that was there, and say how many and why")
+    parser.add_argument("--skip", action="store_true", help="pass over lines that are no record, or have a key that a line before has, and say how many and why")
     parser.add_argument("--escape", action="store_true", help="carry blanks and all other bytes by percent signs")
     parser.add_argument("--key-bytes", type=numbers(1, MAX_KEY), default=0, metavar="N", help="cut keys at so many bytes")
     parser.add_argument("--value-bytes", type=numbers(1, MAX_VALUE), default=0, metavar="N", help="cut values at so many bytes")
     add_server(parser, is_needed=False)
     add_holding(parser, HOLD_MILLIS, TRIES)
     parser.add_argument("file", nargs="?", default="-", metavar="FILE", help="the records (default: standard input)")
-    return parser.parse_args()
+    asked = parser.parse_args()
+    if (asked.key or asked.value) and not asked.csv:
+        parser.error("--key and --value are for --csv")
+    return asked
+
+
+def reading_of(asked: argparse.Namespace) -> Reading:
+    """How lines are read, as the words say."""
+    columns = Columns(asked.key or "", asked.value or "") if asked.csv else None
+    cuts = {"key_bytes": asked.key_bytes, "value_bytes": asked.value_bytes}
+    return Reading(asked.run, asked.skip_empty, asked.skip, asked.escape, **cuts, updates=asked.update, keeps_last=asked.last, columns=columns)
 
 
 def read(file: str, reading: Reading) -> Pieces:
@@ -162,7 +180,7 @@ def main() -> int:
     asked = words()
     # What is made lives until the end, so a search for what can go finds nothing.
     gc.disable()
-    runs = read(asked.file, Reading(asked.run, asked.skip_empty, asked.skip, asked.escape, asked.key_bytes, asked.value_bytes, asked.update))
+    runs = read(asked.file, reading_of(asked))
     if told := runs.told_faults():
         say(f"amload: {told}")
     if not runs.records():

@@ -17,6 +17,7 @@ from tiuvrokk._escapes import cut, escaped_key, escaped_value
 from tiuvrokk._grammar import MAX_LOCKS, MAX_OPERATIONS, MAX_RUN, RECORD, RECORDS, fault_of, staged, with_tab
 
 from .program import CLOSED, Stop, visible
+from .tables import Columns, lines_of_table
 
 # A transaction's operations are a lock and the loads. Each load has a lock of its own, unless one covers them all.
 MAX_RUNS = MAX_OPERATIONS - 1
@@ -24,7 +25,7 @@ SHOWN = 60
 
 # Hashes of keys are compared by at most so many parts of their range, one after another.
 PARTS = 64
-TWICE = "its key stands in a line before"
+TWICE, TWICE_LAST = "its key stands in a line before, whose value stays", "its key stands in a line behind, whose value stays"
 
 
 class Reading(NamedTuple):
@@ -40,6 +41,24 @@ class Reading(NamedTuple):
     """At most so many bytes of a key, and of a value, where it isn't 0."""
     updates: bool = False
     """Records that are there get the new values."""
+    keeps_last: bool = False
+    """Of lines with one key the last one counts."""
+    columns: Optional[Columns] = None
+    """Where the lines are a table's, which of its columns are read."""
+
+    @property
+    def is_escaped(self) -> bool:
+        """Whether records come with their bytes escaped."""
+        return self.escapes and self.columns is not None
+
+    @property
+    def drops_doubles(self) -> bool:
+        return self.skips or self.keeps_last
+
+    @property
+    def twice(self) -> str:
+        """Why a line is passed over whose key another one has."""
+        return TWICE_LAST if self.keeps_last else TWICE
 
     @property
     def verb(self) -> bytes:
@@ -87,8 +106,8 @@ def piece_of(text: bytes, first: int, reading: Reading) -> Piece:
                 why = fault_of(record)
                 faults[reason(why)] += 1
                 bad = bad or (number, line, why)
-    if reading.skips:
-        records = without_doubles(records, faults)
+    if reading.drops_doubles:
+        records = without_doubles(records, faults, reading)
     runs = [run_of(records[at : at + reading.run], reading.verb) for at in range(0, len(records), reading.run)]
     return Piece(runs, bad, faults)
 
@@ -96,7 +115,7 @@ def piece_of(text: bytes, first: int, reading: Reading) -> Piece:
 def record_of(line: bytes, reading: Reading) -> bytes:
     """A line as a record, with a TAB behind its key, as far as it is one."""
     key, separator, value = with_tab(line).partition(b"\t")
-    if reading.escapes and separator:
+    if reading.escapes and separator and not reading.is_escaped:
         key, value = escaped_key(key), escaped_value(value)
     if reading.key_bytes:
         key = cut(key, reading.key_bytes, reading.escapes)
@@ -111,14 +130,14 @@ def reason(why: str) -> str:
     return f"its {found.group(1)} is too long" if found else why.partition(":")[0]
 
 
-def without_doubles(records: List[bytes], faults: "Counter[str]") -> List[bytes]:
-    """The records but those whose key one before has."""
-    first: Dict[bytes, bytes] = {}
-    for record in records:
-        first.setdefault(record.partition(b"\t")[0], record)
-    if len(first) < len(records):
-        faults[TWICE] += len(records) - len(first)
-    return list(first.values())
+def without_doubles(records: List[bytes], faults: "Counter[str]", reading: Reading) -> List[bytes]:
+    """The records but those whose key one before has, or one behind."""
+    kept: Dict[bytes, bytes] = {}
+    for record in records if reading.keeps_last else reversed(records):
+        kept[key_of(record)] = record
+    if len(kept) < len(records):
+        faults[reading.twice] += len(records) - len(kept)
+    return list(kept.values())
 
 
 def key_of(record: bytes) -> bytes:
@@ -216,7 +235,7 @@ class Pieces:
         self.read(opened(file), show)
         self.raise_faults()
         suspects = self.suspects()
-        if suspects and reading.skips:
+        if suspects and reading.drops_doubles:
             self.drop_doubles(suspects)
         elif suspects:
             self.raise_double(suspects)
@@ -227,13 +246,16 @@ class Pieces:
     def read(self, source: BinaryIO, show: Callable[[int, int, int], None]) -> None:
         """Reads all, and shows how far it is: records, bytes, and how many bytes there are, where that is known."""
         lines_at_once = self.reading.run * max(1, MAX_RUN // self.reading.run)
-        self.copy: Optional[IO[bytes]] = None if source.seekable() else nameless()
+        columns = self.reading.columns
+        lines: Iterator[bytes] = lines_of_table(source, columns, self.reading.escapes) if columns else iter(source)
+        self.copy: Optional[IO[bytes]] = nameless() if columns or not source.seekable() else None
+        self.lines_before = 1 if columns else 0
         whole = os.fstat(source.fileno()).st_size if source.seekable() else 0
         helpers: List[Helper] = []
-        first = size = 0
+        first, size = self.lines_before, 0
         try:
-            for text in self.texts(source, lines_at_once):
-                if first == 0 and text.count(b"\n") == lines_at_once:
+            for text in self.texts(lines, lines_at_once):
+                if not helpers and text.count(b"\n") == lines_at_once:
                     for _ in range(len(os.sched_getaffinity(0))):
                         helpers.append(Helper(self.reading, helpers))
                 if helpers:
@@ -257,7 +279,7 @@ class Pieces:
                 helper.end()
         self.source = source
 
-    def texts(self, source: BinaryIO, number: int) -> Iterator[bytes]:
+    def texts(self, source: Iterator[bytes], number: int) -> Iterator[bytes]:
         """So many lines at a time, each ended by an LF. An empty last line is none."""
         lines = list(itertools.islice(source, number))
         while lines:
@@ -327,21 +349,23 @@ class Pieces:
         source = self.copy or self.source
         source.seek(0)
         first: Dict[bytes, int] = {}
-        for number, line in enumerate(source, 1):
+        for number, line in enumerate(source, 1 + self.lines_before):
             key = key_of(record_of(line.rstrip(b"\r\n") if line.endswith(b"\n") else line, self.reading))
             if key and hash(key) in suspects and first.setdefault(key, number) != number:
                 raise Stop(3, f"line {number}: the key {key.decode()} stands in line {first[key]} already")
 
     def drop_doubles(self, suspects: "set[int]") -> None:
-        """Has the runs drop what a run before has."""
-        seen: "set[bytes]" = set()
-        for at, (_, lines) in enumerate(self):
+        """Has the runs drop what a run before has, or one behind."""
+        doubtful: List["set[bytes]"] = []
+        for _, lines in self:
             keys = {word.partition(b"=")[0] for word in lines.split() if b"=" in word}
-            doubtful = {key for key in keys if hash(key) in suspects}
-            if again := doubtful & seen:
+            doubtful.append({key for key in keys if hash(key) in suspects})
+        seen: "set[bytes]" = set()
+        for at in reversed(range(len(doubtful))) if self.reading.keeps_last else range(len(doubtful)):
+            if again := doubtful[at] & seen:
                 self.dropped[at] = sorted(again)
-                self.faults[TWICE] += len(again)
-            seen |= doubtful
+                self.faults[self.reading.twice] += len(again)
+            seen |= doubtful[at]
 
     def told_faults(self) -> str:
         """How many lines were passed over, and why."""

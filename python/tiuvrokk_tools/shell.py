@@ -1,30 +1,37 @@
 """Speaks with a store at a terminal: with a server's by --port or --socket, else with one of its own, which ends with it.
 
-Lines are those of the protocol, their verbs in either case; HELP lists them, HELP VERB tells one. GET, SCAN, INS, REP, DEL and
-LOAD outside a transaction are one each. Rows are shown as a table. Beside them:
+Lines are those of the protocol, their verbs in either case; HELP lists them, HELP VERB tells one. GET, SCAN, RSCAN, INS, REP, SET,
+DEL, DELR, LOAD and PUT outside a transaction are one each; LOAD and PUT take their records in any order. Rows are shown as a table,
+with --json or --csv as such. Beside them:
 
     .load FILE    loads records, as amload reads them      .raw on|off   answers as the store's lines
-    .dump FILE    writes all records, as amdump does       .time on|off  how long each answer took
-    .read FILE    reads lines from a file                  .escape on|off  any bytes by percent signs, as --escape does
-    .count LO HI  counts records, or all                   .stats        the session's number, and the commits so far
-    .help VERB    tells a line or a command                .quit         ends, as QUIT, EXIT and the end of the input do
+    .import FILE  loads a table, as amload --csv reads it  .time on|off  how long each answer took
+    .dump FILE    writes all records, as amdump does       .escape on|off  any bytes by percent signs, as --escape does
+    .read FILE    reads lines from a file                  .stats        the session's number, and the commits so far
+    .count LO HI  counts records, or all                   .quit         ends, as QUIT, EXIT and the end of the input do
+    .help VERB    tells a line or a command
+
+    amcli --port 7070 'set ant 6' 'scan a z 10'            lines may stand on the command line, and then no others are read
 
 With --escape what is typed may be any text: what has blanks stands between quotes, and percent signs carry it.
 
 At a terminal the prompt has the number of the active transaction, a TAB completes verbs and the keys that were seen, and what
 was typed is kept in a file, line by line. A store that goes away is told of by the prompt, and the next line connects again.
-Elsewhere lines are read with no prompt, and one that has none of the forms is told with its number. An interrupt drops the line
-that is typed, and ends a .load or a .dump; a second one ends all. Python 3.9 is needed."""
+Elsewhere lines are read with no prompt, and the first that fails, by BUSY or ERR or a command's fault, ends all with status 1, told
+with its number; what is active is aborted. With --lenient lines that follow are read, and with --strict too, but for the status. An
+interrupt drops the line that is typed, and ends a .load or a .dump; a second one ends all. Python 3.9 is needed."""
 
 import argparse
 import contextlib
+import csv
+import enum
 import io
-import itertools
+import json
 import os
 import signal
 import sys
 import time
-from typing import Callable, Dict, Iterator, List, Optional
+from typing import Callable, Dict, Iterable, Iterator, List, Optional, Tuple
 
 from tiuvrokk._escapes import unescaped
 from tiuvrokk._grammar import GREATEST_KEY, LEAST_KEY
@@ -38,12 +45,14 @@ from .pieces import Pieces, Reading
 from .program import CLOSED, Parser, Stop, add_server, read_file, run_program, say, visible, write_all
 from .progress import Progress
 from .sessions import UNSERVED, Refused, Session, names_server, shown, unserved_by, with_program, with_server
+from .tables import Columns
 from .typed import spelled, words_of
-from .verbs import ALONE, VERBS, fault_of_line, help_of, help_of_all
+from .verbs import ALONE, SORTED, VERBS, fault_of_line, help_of, help_of_all, refusal_of
 
 EPILOG = """status:
   0  the input was read to its end
-  1  a line of a pipe or of a file has none of the forms; with --strict also: an answer was BUSY or ERR, or a command failed
+  1  a line of a pipe failed: it was answered BUSY or ERR, or a command didn't do what it is for; with --lenient only where a line
+     has none of the forms
   2  the words of the command line are wrong
   5  the store can't be reached, went away or didn't answer in time
   6  standard output can't be written
@@ -54,6 +63,23 @@ LAPSE = "no line came for too long: the transaction was aborted"
 MOST_FILES = 16
 # So often a command is tried that another holds up: whoever types waits a few seconds.
 TRIES = 5
+
+
+class Form(enum.Enum):
+    """How answers are shown."""
+
+    TABLE = "rows as a table"
+    RAW = "lines of the store"
+    JSON = "a line of JSON each"
+    CSV = "rows as comma separated values"
+
+
+class Failures(enum.Enum):
+    """What comes of a line of a pipe that fails."""
+
+    END = "it ends all, with a status"
+    COUNT = "it goes on, and ends with a status"
+    PASS = "it goes on, and ends with a status where a line has none of the forms"
 
 
 class ShellProgress(Progress):
@@ -76,25 +102,47 @@ def text_of(text: bytes, escapes: bool) -> str:
     return "".join(it if it.isprintable() else visible(it.encode()) for it in unescaped(text).decode("utf-8", "backslashreplace"))
 
 
-def table(rows: List[bytes], escapes: bool = False) -> str:
-    """Rows as a table."""
+def texts_of(rows: List[bytes], escapes: bool) -> List[Tuple[str, str]]:
+    """The keys and values of rows, as they are shown."""
     parted = [row.partition(b"=")[::2] for row in rows]
-    records = [("key", "value"), *((text_of(key, escapes), text_of(value, escapes)) for key, value in parted)]
+    return [(text_of(key, escapes), text_of(value, escapes)) for key, value in parted]
+
+
+def table(rows: List[Tuple[str, str]]) -> str:
+    """Rows as a table."""
+    records = [("key", "value"), *rows]
     width = max(len(key) for key, _ in records)
     lines = [f"{key:{width}}  {value}" for key, value in records]
     number = len(rows)
     return "\n".join([*(lines if rows else []), f"{number} row{'' if number == 1 else 's'}"])
 
 
+def as_csv(rows: List[Tuple[str, str]]) -> str:
+    """Rows as comma separated values, without a line of names."""
+    text = io.StringIO()
+    csv.writer(text, lineterminator="\n").writerows(rows)
+    return text.getvalue()[:-1]
+
+
+def as_json(answer: bytes, rows: Optional[List[Tuple[str, str]]], value: Optional[str]) -> str:
+    """An answer as JSON: rows as a list of objects, a value as a string, none as null, and what else there is as its text."""
+    if rows is not None:
+        return json.dumps([{"key": key, "value": value} for key, value in rows], ensure_ascii=False)
+    return json.dumps(None if answer == b"NONE" else shown(answer) if value is None else value, ensure_ascii=False)
+
+
 class Shell:
     """A session, and how its answers are shown."""
 
-    def __init__(self, connect: Callable[[], Session], is_raw: bool, escapes: bool = False) -> None:
+    def __init__(
+        self, connect: Callable[[], Session], form: Form = Form.TABLE, escapes: bool = False, failures: Failures = Failures.PASS
+    ) -> None:
         self.connect = connect
         self.session = connect()
         self.is_connected = True
-        self.is_raw = is_raw
+        self.form = form
         self.escapes = escapes
+        self.failures = failures
         self.is_timed = False
         self.transaction: Optional[str] = None
         self.has_failed = False
@@ -105,9 +153,14 @@ class Shell:
         self.files = 0
         self.completion = Completion()
         self.commands: Dict[str, Callable[[str], None]] = {
-            ".load": self.load, ".dump": self.dump, ".read": self.read, ".count": self.count, ".stats": self.stats, ".raw": self.set_raw,
+            ".load": self.load, ".import": self.import_table, ".dump": self.dump, ".read": self.read, ".count": self.count, ".stats": self.stats, ".raw": self.set_raw,
             ".escape": self.set_escape, ".time": self.set_time, ".help": self.help, ".quit": self.quit, ".exit": self.quit,
         }
+
+    @property
+    def is_over(self) -> bool:
+        """Whether no further line is read."""
+        return self.has_ended or (self.has_failed and self.failures is Failures.END)
 
     def prompt(self) -> str:
         if not self.is_connected:
@@ -149,6 +202,8 @@ class Shell:
                 raise Stop(1, f"{LAPSE}, and the line did nothing")
             if answer in (b"ERR SYNTAX", b"ERR RANGE", b"ERR LONG", b"ERR LIMIT"):
                 raise Stop(2, fault_of_line(asked.decode("utf-8", "surrogateescape")))
+            if why := refusal_of(shown(answer)):
+                raise Stop(1, why)
 
     def fail(self, text: str) -> None:
         self.has_failed = True
@@ -162,6 +217,8 @@ class Shell:
         verb = verb.upper()
         if verb == "LOCK" and rest:
             rest[0] = rest[0].upper()
+        if verb in SORTED:
+            rest.sort(key=lambda record: record.partition("=")[0].encode("utf-8", "surrogateescape"))
         return " ".join([verb, *rest]).encode("utf-8", "surrogateescape")
 
     def answer(self, line: bytes) -> bytes:
@@ -203,15 +260,29 @@ class Shell:
         self.has_failed |= answer.startswith((b"ERR ", b"BUSY "))
         word, *rest = answer.split(b" ")
         text = shown(answer)
-        if word == b"ROWS" and not self.is_raw:
-            text = table(rest[1:], self.escapes)
-        elif word == b"VAL" and not self.is_raw:
-            text = f"VAL {text_of(answer[4:], self.escapes)}"
+        rows = texts_of(rest[1:], self.escapes) if word == b"ROWS" else None
+        value = text_of(answer[4:], self.escapes) if word == b"VAL" else None
+        if self.form is Form.JSON:
+            text = as_json(answer, rows, value)
+        elif self.form is not Form.RAW and value is not None:
+            text = f"VAL {value}" if self.form is Form.TABLE else value
+        elif self.form is not Form.RAW and rows is not None:
+            text = table(rows) if self.form is Form.TABLE else as_csv(rows)
+            if not text:
+                return
         write_all(f"{text}\n".encode("utf-8", "backslashreplace"))
 
     def load(self, file: str) -> None:
         """Loads a file by a transaction of its own, where none is active."""
-        runs = self.read_records(self.named(file))
+        self.load_as(file, Reading(escapes=self.escapes))
+
+    def import_table(self, file: str) -> None:
+        """The same of a table."""
+        self.load_as(file, Reading(escapes=self.escapes, columns=Columns()))
+
+    def load_as(self, file: str, reading: Reading) -> None:
+        """Loads the records of a file that is read so."""
+        runs = self.read_records(self.named(file), reading)
         records = runs.records()
         progress = ShellProgress(self, records, runs.size())
         try:
@@ -231,7 +302,7 @@ class Shell:
             progress.end()
         write_all(b"loaded %d\n" % records)
 
-    def read_records(self, name: str) -> Pieces:
+    def read_records(self, name: str, reading: Reading) -> Pieces:
         """The records of a file; an interrupt is seen between two of its pieces."""
         progress = ShellProgress(self)
 
@@ -240,7 +311,7 @@ class Shell:
             progress.show(records, size)
 
         try:
-            return Pieces(name, Reading(escapes=self.escapes), show)
+            return Pieces(name, reading, show)
         finally:
             progress.end()
 
@@ -300,7 +371,7 @@ class Shell:
         before = self.place
         try:
             for number, line in enumerate(text.split("\n"), 1):
-                if self.has_ended or self.is_interrupted:
+                if self.is_over or self.is_interrupted:
                     break
                 self.place = f"{file}: line {number}: "
                 self.do(line)
@@ -355,7 +426,7 @@ class Shell:
         return os.path.expanduser(file)
 
     def set_raw(self, word: str) -> None:
-        self.is_raw = self.switched(word, self.is_raw)
+        self.form = Form.RAW if self.switched(word, self.form is Form.RAW) else Form.TABLE
 
     def set_escape(self, word: str) -> None:
         self.escapes = self.switched(word, self.escapes)
@@ -423,28 +494,32 @@ def from_terminal(shell: Shell, history: str) -> None:
             shell.fail(str(stop))
 
 
-def from_lines(shell: Shell) -> None:
-    """Lines of a pipe or of a file."""
-    if CLOSED[0]:
-        return
-    for number in itertools.count(1):
-        line = sys.stdin.buffer.readline()
-        if not line or shell.has_ended:
-            break
+def from_lines(shell: Shell, lines: Iterable[bytes]) -> None:
+    """Lines of a pipe, of a file or of the command line."""
+    for number, line in enumerate(lines, 1):
         shell.place = f"line {number}: "
         shell.do(line.decode("utf-8", "surrogateescape").rstrip("\n"))
+        if shell.is_over:
+            break
 
 
 def words() -> argparse.Namespace:
     parser = Parser(NAME, __doc__, EPILOG)
     add_server(parser, is_needed=False)
     store, history = "the program of a store of its own (default: amserve)", "what was typed (default: ~/.tiuvrokk_history)"
-    strict = "end with status 1 where an answer was BUSY or ERR, or a command failed"
+    strict, lenient = "read on behind a line that fails, and end with status 1", "read on behind a line that fails, with status 1 only for lines of no form"
     parser.add_argument("--store", metavar="FILE", default=os.path.join(TOP, "amserve"), help=store)
     parser.add_argument("--escape", action="store_true", help="carry blanks and all other bytes by percent signs")
-    parser.add_argument("--raw", action="store_true", help="show answers as the store's lines")
-    parser.add_argument("--strict", action="store_true", help=strict)
+    shows = parser.add_mutually_exclusive_group()
+    shows.add_argument("--raw", dest="form", action="store_const", const=Form.RAW, default=Form.TABLE, help="show answers as the store's lines")
+    shows.add_argument("--json", dest="form", action="store_const", const=Form.JSON, help="show each answer as a line of JSON")
+    shows.add_argument("--csv", dest="form", action="store_const", const=Form.CSV, help="show rows as comma separated values, and values alone")
+    fails = parser.add_mutually_exclusive_group()
+    fails.add_argument("--strict", dest="failures", action="store_const", const=Failures.COUNT, default=Failures.END, help=strict)
+    fails.add_argument("--lenient", dest="failures", action="store_const", const=Failures.PASS, help=lenient)
     parser.add_argument("--history", metavar="FILE", default="~/.tiuvrokk_history", help=history)
+    parser.add_argument("-c", "--command", dest="lines", metavar="LINE", action="append", default=[], help="a line, in place of those of standard input")
+    parser.add_argument("more_lines", metavar="LINE", nargs="*", help="the same")
     return parser.parse_args()
 
 
@@ -454,15 +529,17 @@ def main() -> int:
     def connect() -> Session:
         return with_server(asked) if names_server(asked) else with_program([asked.store])
 
-    shell = Shell(connect, asked.raw, asked.escape)
-    is_typed = os.isatty(0) and os.isatty(1)
+    lines = [os.fsencode(line) for line in [*asked.lines, *asked.more_lines]]
+    is_typed = not lines and os.isatty(0) and os.isatty(1)
+    shell = Shell(connect, asked.form, asked.escape, Failures.PASS if is_typed else asked.failures)
     if is_typed:
         from_terminal(shell, os.path.expanduser(asked.history))
-    else:
-        from_lines(shell)
+    elif lines or not CLOSED[0]:
+        from_lines(shell, lines or iter(sys.stdin.buffer.readline, b""))
     if shell.is_connected:
         shell.session.leave()
-    return 1 if (asked.strict and shell.has_failed) or (shell.has_bad_line and not is_typed) else 0
+    has_failed = shell.has_bad_line if shell.failures is Failures.PASS else shell.has_failed
+    return 1 if has_failed and not is_typed else 0
 
 
 def start() -> None:

@@ -122,8 +122,38 @@ def has_written(line: bytes, answer: bytes) -> bool:
     )
 
 
+SORTED = ("LOAD", "PUT")
+"""The verbs whose records a shell sorts."""
+# What answers mean that refuse a line for another reason than its form.
+_REFUSALS = {
+    "BUSY": "transaction {} holds a lock that is in the way: ABORT, and begin anew (WHO names its session)",
+    "ERR NOTX": "no transaction is active: BEGIN begins one",
+    "ERR ACTIVE": "a transaction is active: COMMIT or ABORT ends it",
+    "ERR STAGED": "records wait that were staged: LOAD or PUT brings them, ABORT lets them go",
+    "ERR TXS": "64 transactions are active, and may be no more: begin anew a little later",
+    "ERR LOCKS": "the transaction holds 256 locks, and may hold no more: LOCK S lo hi, or LOCK X lo hi, first locks a range as one",
+    "ERR OPS": "the transaction had 4,096 operations, and may have no more: COMMIT, and go on in another; LOAD and PUT bring many records as one",
+    "ERR RUNS": "as many runs have entries as may be: read and MERGE them, or load larger ones",
+    "ERR ORDER": "a key stands twice, or doesn't rise above what was staged",
+    "ERR MEMORY": "memory was refused, and the line did nothing",
+    "ERR HELD": "session {} holds the store, or has a transaction that didn't end in time: hold anew a little later",
+    "ERR SESSION": "no session has that number: WHO tells those that have a transaction",
+    "ERR CONFLICT": "others committed what is in the way, and the transaction is over: begin anew",
+}
+
+
+def refusal_of(answer: str) -> str:
+    """What an answer means that refuses a line, or nothing, where it doesn't or its form is wrong."""
+    word, _, rest = answer.partition(" ")
+    if word == "ERR":
+        second, _, rest = rest.partition(" ")
+        word = f"ERR {second}"
+    return _REFUSALS.get(word, "").format(rest)
+
+
 COMMANDS: List[Tuple[str, str]] = [
     (".load FILE", "loads records, as amload reads them"),
+    (".import FILE", "loads the records of a table of comma separated values, as amload --csv reads them"),
     (".dump FILE", "writes all records, as amdump does; - is standard output"),
     (".read FILE", "reads lines from a file"),
     (".count [LO HI]", "counts the records, or those of a range"),
