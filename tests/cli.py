@@ -253,8 +253,8 @@ lock s a z
     said = "amcli: line 2: the key is missing: GET k is wanted\n"
     wanted("a bad line", shell(text="get a\nget\n"), (1, "NONE\nERR SYNTAX\n", said))
     said = "amcli: line 2: no transaction is active: BEGIN begins one\n"
-    for words, status, rest in (([], 1, ""), (["--strict"], 1, "NONE\n"), (["--lenient"], 0, "NONE\n")):
-        wanted(f"a line that fails {words}", shell(*words, text="get a\ncommit\nget a\n"), (status, f"NONE\nERR NOTX\n{rest}", said))
+    for word, status, rest in (("--raw", 1, ""), ("--strict", 1, "NONE\n"), ("--lenient", 0, "NONE\n")):
+        wanted(f"a line that fails {word}", shell(word, text="get a\ncommit\nget a\n"), (status, f"NONE\nERR NOTX\n{rest}", said))
     wanted("a line that fails in a transaction", shell(text="begin\nins a 1\nget\ncommit\n")[:2], (1, "BEGUN 1\nOK\nERR SYNTAX\n"))
     wanted("no error, strictly", shell("--strict", text="get a\n"), (0, "NONE\n", ""))
     with open(f"{path}.all", encoding="ascii") as file:
@@ -292,8 +292,8 @@ def what_is_wrong(folder: str) -> None:
     with open(path, "w", encoding="ascii") as file:
         file.write("ins a 1\n\nget\nget a\n")
     said = f"amcli: {path}: line 3: the key is missing: GET k is wanted\n"
-    for words, rest in (([], ""), (["--lenient"], "VAL 1\n")):
-        wanted("a file", shell(*words, text=f".read {path}\n"), (1, f"OK\nERR SYNTAX\n{rest}", said))
+    for word, rest in (("--raw", ""), ("--lenient", "VAL 1\n")):
+        wanted("a file", shell(word, text=f".read {path}\n"), (1, f"OK\nERR SYNTAX\n{rest}", said))
 
 
 def words_of_the_command_line(folder: str) -> None:
