@@ -47,6 +47,29 @@ def made(folder: str, given: List[str]) -> List[str]:
     return [os.path.join(folder, "one", name) for name in names]
 
 
+def from_an_archive(folder: str) -> None:
+    """A tree that git knows nothing of, and one of somebody else's, has the same files; its packages have a version, and a time."""
+    sys.path.insert(0, f"{TOP}/tools")
+    import tree
+
+    top = os.path.join(folder, "archive")
+    for name in tree.kept_files():
+        os.makedirs(os.path.dirname(f"{top}/{name}"), exist_ok=True)
+        shutil.copy(f"{TOP}/{name}", f"{top}/{name}")
+    for name in ("crates/am_record/out/x", "out/x", "rust/target/x"):
+        os.makedirs(os.path.dirname(f"{top}/{name}"), exist_ok=True)
+        open(f"{top}/{name}", "w").close()
+    asked = "import sys; sys.path.insert(0, 'tools'); import tree, layout; print(*tree.kept_files(), layout.revision(), sep='\\n')"
+    files = sorted(tree.kept_files())
+    wanted("the files of an archive", run([sys.executable, "-B", "-c", asked], folder=top).splitlines(), [*files, tree.text_of("VERSION").strip()])
+    if os.geteuid() or shutil.which("git") is None:
+        return
+    for words in (["init", "-q"], ["add", "-A"]):
+        run(["git", "-C", top, *words])
+    subprocess.run(["chown", "-R", "nobody", top], check=True)
+    wanted("the files of somebody else's", sorted(run([sys.executable, "-B", "-c", asked], folder=top).splitlines()[:-1]), files)
+
+
 def first_session() -> Dict[str, str]:
     """The README's first session: what is typed, and what is answered."""
     with open(f"{TOP}/README.md", encoding="utf-8") as file:
@@ -285,6 +308,7 @@ def main() -> None:
         return
     given = sys.argv[1:]
     with tempfile.TemporaryDirectory() as folder:
+        from_an_archive(folder)
         packages = made(folder, given)
         check_debian(packages, os.path.join(folder, "root"))
         check_lint(packages)

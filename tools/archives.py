@@ -28,7 +28,7 @@ def sources(epoch: int, folder: str) -> str:
 
 def archive(programs: Dict[str, bytes], library: List[Entry], epoch: int, folder: str) -> str:
     """Makes the .tar.gz, and tells its name."""
-    name = f"tiuvrokk-{layout.version()}-linux-{os.uname().machine}"
+    name = f"tiuvrokk-{layout.revision()}-linux-{os.uname().machine}"
     entries = layout.all_entries(programs, library)
     documents = ("README.md", "LICENSE", "CHANGELOG.md", "docs/protocol.md", "docs/replicas.md")
     entries += [Entry(it, layout.bytes_of(it)) for it in documents]

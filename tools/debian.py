@@ -87,8 +87,8 @@ def programs_package(programs: Dict[str, bytes]) -> Package:
 
 
 def library_package(name: str, shared: Entry) -> Package:
-    version, major = layout.version(), layout.version().partition(".")[0]
-    shlibs = Entry("shlibs", f"libtiuvrokk {major} {name} (>= {version})\n".encode())
+    revision, major = layout.revision(), layout.version().partition(".")[0]
+    shlibs = Entry("shlibs", f"libtiuvrokk {major} {name} (>= {revision})\n".encode())
     # Since which version the library has each call, by which a program needs that version, and no newer one.
     symbols = Entry("symbols", layout.bytes_of(f"packaging/{name}.symbols"))
     triggers = Entry("triggers", b"activate-noawait ldconfig\n")
@@ -101,7 +101,7 @@ def development_package(library: str, rest: List[Entry]) -> Package:
     entries = [*rest, *layout.manual_entries([3])]
     entries += [Entry(f"{place}/{name}", layout.bytes_of(f"examples/{name}")) for name in ("embed.c", "embed.cpp")]
     about = "This package has what a program needs to be compiled with the library."
-    return Package("libtiuvrokk-dev", "libdevel", [f"{library} (= {layout.version()})"], about, entries)
+    return Package("libtiuvrokk-dev", "libdevel", [f"{library} (= {layout.revision()})"], about, entries)
 
 
 def python_package(library: str) -> Package:
@@ -112,7 +112,7 @@ def python_package(library: str) -> Package:
     entries.append(Entry("share/doc/python3-tiuvrokk/examples/embed.py", layout.bytes_of("examples/embed.py")))
     # What Python compiles where it may write is no file of the package, so it would stay.
     removal = Entry("prerm", f"#!/bin/sh\nset -e\nrm -rf /usr/{PYTHON}/tiuvrokk/__pycache__\n".encode(), 0o755)
-    needs = ["python3 (>= 3.9)", f"{library} (>= {layout.version()})"]
+    needs = ["python3 (>= 3.9)", f"{library} (>= {layout.revision()})"]
     said = "This package has the Python package."
     return Package("python3-tiuvrokk", "python", needs, said, entries, [removal], is_for_all=True)
 
@@ -123,7 +123,7 @@ def documents(package: Package, epoch: int) -> List[Entry]:
     holder = re.search(r"Copyright \(c\) (.*)", licence)
     terms = "".join(f" {line or '.'}\n" for line in licence.splitlines())
     written = f"{COPYRIGHT}Copyright: {holder.group(1) if holder else MAINTAINER}\nLicense: Expat\n{terms}"
-    told = f"tiuvrokk ({layout.version()}) unstable; urgency=medium\n\n  * CHANGELOG.md of the sources has what changed.\n\n"
+    told = f"tiuvrokk ({layout.revision()}) unstable; urgency=medium\n\n  * CHANGELOG.md of the sources has what changed.\n\n"
     changes = f"{told} -- {MAINTAINER}  {formatdate(epoch)}\n"
     place = f"share/doc/{package.name}"
     return [Entry(f"{place}/copyright", written.encode()), Entry(f"{place}/changelog.gz", packed(changes.encode()))]
@@ -134,7 +134,7 @@ def control_of(package: Package, entries: List[Entry]) -> bytes:
     fields = {
         "Package": package.name,
         "Source": "tiuvrokk",
-        "Version": layout.version(),
+        "Version": layout.revision(),
         "Architecture": "all" if package.is_for_all else architecture(),
         "Maintainer": MAINTAINER,
         "Installed-Size": str(sum(1 + len(it.data) // 1024 for it in entries)),
@@ -167,7 +167,7 @@ def make(package: Package, epoch: int, folder: str) -> str:
     control = [Entry("control", control_of(package, entries)), Entry("md5sums", sums.encode()), *package.control]
     if package.settings:
         control.append(Entry("conffiles", "".join(f"/{it.path}\n" for it in package.settings).encode()))
-    made = os.path.join(folder, f"{package.name}_{layout.version()}_{'all' if package.is_for_all else architecture()}.deb")
+    made = os.path.join(folder, f"{package.name}_{layout.revision()}_{'all' if package.is_for_all else architecture()}.deb")
     environment = {**os.environ, "SOURCE_DATE_EPOCH": str(epoch), "DPKG_DEB_THREADS_MAX": "1"}
     with tempfile.TemporaryDirectory() as root:
         layout.write([*entries, *(it._replace(path=f"DEBIAN/{it.path}") for it in control)], root)

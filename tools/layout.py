@@ -1,5 +1,6 @@
 """What is installed, and where: each file as an entry, below a prefix. ./install writes entries, ./package packs them."""
 
+import functools
 import glob
 import os
 import re
@@ -8,6 +9,8 @@ import subprocess
 import sys
 import tempfile
 from typing import Dict, Iterable, List, NamedTuple, Optional
+
+from tree import told_by_git
 
 TOP = os.path.dirname(os.path.dirname(os.path.abspath(__file__)))
 # (for what makes the Python package)
@@ -55,6 +58,14 @@ def bytes_of(path: str) -> bytes:
 
 def version() -> str:
     return bytes_of("VERSION").decode().strip()
+
+
+@functools.lru_cache(maxsize=None)
+def revision() -> str:
+    """The version, and behind it how many commits came since it was given: so packages of other sources have another one."""
+    given = told_by_git("log", "-1", "--format=%H", "--", "VERSION")
+    since = told_by_git("rev-list", "--count", f"{given.strip()}..HEAD") if given and given.strip() else None
+    return version() if since is None or since.strip() == "0" else f"{version()}+{since.strip()}"
 
 
 def built_programs(folder: Optional[str]) -> Dict[str, bytes]:

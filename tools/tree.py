@@ -5,7 +5,7 @@ import glob
 import os
 import re
 import subprocess
-from typing import Dict, Iterator, List
+from typing import Dict, Iterator, List, Optional
 
 TOP = os.path.dirname(os.path.dirname(os.path.abspath(__file__)))
 
@@ -53,10 +53,32 @@ def sources(*folders: str, kinds: str = "rt antt") -> List[str]:
     return sorted(found)
 
 
+def told_by_git(*words: str) -> Optional[str]:
+    """What git says of the tree, whoever owns it; None where there is no git, or the tree is none of git's own, as one from an archive."""
+    if not os.path.exists(f"{TOP}/.git"):
+        return None
+    asked = ["git", "-c", f"safe.directory={TOP}", "-C", TOP, *words]
+    try:
+        return subprocess.run(asked, stdout=subprocess.PIPE, stderr=subprocess.DEVNULL, text=True, check=True).stdout
+    except (OSError, subprocess.CalledProcessError):
+        return None
+
+
 def kept_files() -> List[str]:
-    """The files that git keeps, or would keep."""
-    told = subprocess.run(["git", "ls-files", "-co", "--exclude-standard"], cwd=TOP, stdout=subprocess.PIPE, text=True, check=True).stdout
+    """The files that git keeps, or would keep; without it all but what is built."""
+    told = told_by_git("ls-files", "-co", "--exclude-standard")
+    if told is None:
+        return sorted(files_beside(text_of(".gitignore").split()))
     return [it for it in told.splitlines() if os.path.isfile(os.path.join(TOP, it))]
+
+
+def files_beside(built: List[str]) -> Iterator[str]:
+    """The files of the tree, but those in folders that are built."""
+    for folder, folders, names in os.walk(TOP):
+        at = os.path.relpath(folder, TOP)
+        places = {it: os.path.normpath(os.path.join(at, it)) for it in [*folders, *names]}
+        folders[:] = [it for it in folders if it not in (".git", "__pycache__") and not {f"{it}/", f"{places[it]}/"} & set(built)]
+        yield from (places[it] for it in names)
 
 
 def documents() -> List[str]:
