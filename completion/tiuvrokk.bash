@@ -15,7 +15,7 @@ _tiuvrokk_words() {
     amdump) echo '--escape --port --socket --wait --hold --tries --help --version' ;;
     amcli) echo '--port --socket --wait --store --escape --raw --json --csv --strict --lenient --command --history --help --version' ;;
     amdraw) echo '--text --help --version' ;;
-    amreplica) echo '--port --log --reads --limit --snapshot --trace --stats --cacert --cert --key --user --help --version' ;;
+    amreplica) echo '--port --log --reads --limit --snapshot --trace --stats --cacert --cert --key --user --password-file --help --version' ;;
     esac
 }
 

@@ -33,7 +33,9 @@ def statuses(cluster: Cluster) -> None:
     os.symlink(AMREPLICA, link)
     helped = subprocess.run([link, "--help"], capture_output=True, text=True, timeout=LIMIT, check=False)
     wanted("help by a link", (helped.returncode, "status:" in helped.stdout), (0, True))
-    for given in ["", "--port 65536 a:1", "--reads all a:1", "nowhere", "--log a/b a:1", "--limit 0 a:1", "--snapshot -1 a:1"]:
+    for given in ["", "--port 65536 a:1", "--reads all a:1", "nowhere", "--log a/b a:1", "--limit 0 a:1", "--snapshot -1 a:1",
+                  "https://a:1 http://b:1", "--cacert /dev/null http://a:1", "--key x a:1", "--password-file x a:1",
+                  "--user a:b --password-file x a:1", "ftp://a:1"]:
         wanted(f"the words {given}", run(*given.split())[:2], (2, ""))
     endpoint = cluster.endpoints[0]
     wanted("a trace that can't be written", run("--trace", "/nowhere/trace", endpoint)[::2],
@@ -90,7 +92,17 @@ def guarded(folder: str) -> None:
     try:
         for given in (["user", "add", "root:secret"], ["user", "grant-role", "root", "root"], ["auth", "enable"]):
             wanted(f"etcdctl {given}", cluster.status(*given), 0)
-        cluster.start_replica(0, *access, "--user", "root:secret")
+        secret = os.path.join(folder, "secret")
+        with open(secret, "w", encoding="ascii") as file:
+            file.write("secret\n")
+        by_file = ["--user", "root", "--password-file", secret]
+        os.chmod(secret, 0o644)
+        told = f"amreplica: {secret}: others than its owner may read it: chmod 600 {secret}\n"
+        wanted("a password that others may read", run(*access, *by_file, cluster.endpoints[0]), (4, "", told))
+        os.chmod(secret, 0o600)
+        strange = run(*by_file, f"https://{cluster.endpoints[0].rpartition('/')[2]}")
+        wanted("a certificate that nobody known signed", (strange[0], "certificate" in strange[2]), (5, True))
+        cluster.start_replica(0, *access, *by_file)
         wanted("a replica", cluster.is_ready(0), True)
         client = cluster.client(0)
         wanted("a transaction", client.ask("BEGIN", "INS a 1", "COMMIT")[1:], ["OK", "COMMITTED 1"])

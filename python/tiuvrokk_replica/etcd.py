@@ -7,7 +7,7 @@ import ssl
 import sys
 import time
 from binascii import a2b_base64, b2a_base64
-from typing import Any, Callable, Dict, List, NamedTuple, Optional, Tuple
+from typing import Any, Callable, Dict, List, NamedTuple, Optional, Set, Tuple
 
 Message = Dict[str, Any]
 # What a connection may end with.
@@ -177,6 +177,7 @@ class Etcd:
         self.token = ""
         self.denials = 0
         self.silent_since: Optional[float] = None
+        self.strangers: Set[str] = set()  # members whose certificates aren't those that are asked for
 
     @property
     def host(self) -> str:
@@ -224,9 +225,17 @@ class Etcd:
         host = self.host
         try:
             status, body = await self.exchange(host, path, message)
+            self.strangers.discard(host)
             if status == 200:
                 answer: Message = json.loads(body)
                 return answer
+        except ssl.SSLCertVerificationError as fault:
+            self.pass_over(host)
+            self.strangers.add(host)
+            if self.strangers >= set(self.endpoints):
+                # (no time mends that)
+                raise Refused(f"{host}: {fault.verify_message}") from fault
+            raise Unreachable(f"{host}: {fault.verify_message}") from fault
         except FAULTS as fault:
             self.pass_over(host)
             raise Unreachable(f"{host}: {str(fault) or type(fault).__name__}") from fault

@@ -9,7 +9,7 @@ import re
 import signal
 import ssl
 import sys
-from typing import Any, Callable, Coroutine, Dict, NoReturn, Optional
+from typing import Any, Callable, Coroutine, Dict, NamedTuple, NoReturn, Optional
 
 from .entries import NoEntry
 from .etcd import Access, Etcd, Refused
@@ -55,12 +55,19 @@ def number_of(kind: Callable[[str], float], least: float, most: float) -> Callab
     return number
 
 
-def endpoint(word: str) -> str:
-    """A member's host and port."""
-    place = re.sub("^https?://", "", word).rstrip("/")
-    if not re.fullmatch(r"(?:[\w.-]+|\[[0-9A-Fa-f:]+\]):[0-9]{1,5}", place):
+class Endpoint(NamedTuple):
+    """A member's host and port, and how it is spoken to, where that is said."""
+
+    place: str
+    scheme: str
+
+
+def endpoint(word: str) -> Endpoint:
+    """A member, as a word names it."""
+    found = re.fullmatch(r"(?:(https?)://)?((?:[\w.-]+|\[[0-9A-Fa-f:]+\]):[0-9]{1,5})/?", word)
+    if not found:
         raise argparse.ArgumentTypeError(f"{word} is no HOST:PORT")
-    return place
+    return Endpoint(found[2], found[1] or "")
 
 
 def log_name(word: str) -> str:
@@ -91,22 +98,52 @@ def parser() -> argparse.ArgumentParser:
     words.add_argument("--key", metavar="FILE", help="the key of that")
     words.add_argument("--user", metavar="NAME[:PASSWORD]",
                        help="etcd's user; a password that isn't there is the first line of standard input")
-    words.add_argument("endpoints", nargs="+", type=endpoint, metavar="ENDPOINT", help="host:port of etcd's members")
+    words.add_argument("--password-file", metavar="FILE", help="the password is this file's first line; its owner alone may read it")
+    words.add_argument("endpoints", nargs="+", type=endpoint, metavar="ENDPOINT",
+                       help="host:port of etcd's members, spoken to by TLS where they begin with https://")
     return words
+
+
+def words_of() -> argparse.Namespace:
+    """The command line, whose words agree."""
+    given = parser()
+    asked = given.parse_args()
+    schemes = {it.scheme for it in asked.endpoints}
+    asked.is_by_tls = "https" in schemes or bool(asked.cacert or asked.cert)
+    if asked.is_by_tls and "http" in schemes:
+        given.error("an endpoint of http:// beside TLS: what is sent there could be read by others")
+    if asked.key and not asked.cert:
+        given.error("--key is that of --cert")
+    if asked.password_file and (not asked.user or ":" in asked.user):
+        given.error("--password-file is for a --user without a password")
+    return asked
+
+
+def password_of(file: str) -> str:
+    """The first line of a file that its owner alone may read."""
+    try:
+        with open(file, encoding="utf-8") as opened:
+            if os.fstat(opened.fileno()).st_mode & 0o077:
+                raise Ending(4, f"{file}: others than its owner may read it: chmod 600 {file}")
+            return opened.readline().rstrip("\n")
+    except (OSError, ValueError) as fault:
+        raise Ending(4, f"{file}: {getattr(fault, 'strerror', None) or fault}") from fault
 
 
 def access_of(asked: argparse.Namespace) -> Access:
     """How etcd is spoken to."""
     context: Optional[ssl.SSLContext] = None
     try:
-        if asked.cacert or asked.cert:
+        if asked.is_by_tls:
             context = ssl.create_default_context(cafile=asked.cacert)
         if context and asked.cert:
             context.load_cert_chain(asked.cert, asked.key)
     except OSError as fault:
         raise Ending(4, f"certificates: {fault}") from fault
     user, colon, password = (asked.user or "").partition(":")
-    if user and not colon:
+    if asked.password_file:
+        password = password_of(asked.password_file)
+    elif user and not colon:
         password = sys.stdin.readline().rstrip("\n")
     return Access(context, user, password)
 
@@ -118,7 +155,7 @@ class Program:
         self.asked, self.sessions, self.open = asked, 0, 0
         self.served: Dict[int, Session] = {}  # by their numbers
         self.end: "asyncio.Future[None]" = asyncio.get_running_loop().create_future()
-        self.replica = Replica(Log(Etcd(asked.endpoints, access), asked.log), store, asked.snapshot, self.trace())
+        self.replica = Replica(Log(Etcd([it.place for it in asked.endpoints], access), asked.log), store, asked.snapshot, self.trace())
 
     def trace(self) -> Optional[Trace]:
         try:
@@ -226,7 +263,8 @@ async def live(asked: argparse.Namespace, store: Store) -> None:
     except LeftBehind as fault:
         # Only a newer snapshot has what the log did meanwhile.
         print(f"amreplica: left behind: {fault}: beginning anew", file=sys.stderr, flush=True)
-        give_again(access.password)
+        if not asked.password_file:
+            give_again(access.password)
         os.execv(sys.executable, [sys.executable] + sys.argv)
     except OSError as fault:
         leave(4, str(fault))
@@ -235,7 +273,7 @@ async def live(asked: argparse.Namespace, store: Store) -> None:
 def main() -> None:
     # (blocks are many, and go with no help: cycles are few)
     gc.set_threshold(100_000)
-    asked = parser().parse_args()
+    asked = words_of()
     try:
         # (it may have to be built first, which takes minutes)
         store = Store()
