@@ -8,6 +8,7 @@ ghost use Rattle.am_index.specs.Entries.{next_ghost};
 ghost use Rattle.am_index.specs.Rooms.{KeepRoom};
 ghost use Rattle.am_law_sound.specs.StoreState.{empty_state, IsFit, MayAnswer, state_after};
 ghost use Rattle.am_index_parts.specs.Figures.{AreFigures};
+ghost use Rattle.am_store_merge.specs.Fronts.{IsNextInRuns};
 ghost use Rattle.am_store.specs.Memory.{may_want_memory};
 ghost use Rattle.am_store.specs.StoreSteps.{IsSoundAt, Extends, IsWithin, KeepsContent};
 ghost use Rattle.am_store.specs.InnerState.{inner_state, HasRooms};
@@ -16,8 +17,8 @@ use crate::entries::all_entries;
 use crate::inner::Inner;
 use am_index::{Figures, PartIndex};
 use am_index_parts::Parts;
-use am_record::{Entry, HashKey, Key, MAX_RUNS, NoMemory, Reply, Step};
-use am_store_merge::Wishes;
+use am_record::{Entry, HashKey, Key, MAX_RUNS, NoMemory, Range, Reply, Step};
+use am_store_merge::{Wishes, next_in_runs};
 use am_store_tx::TxTable;
 use std::alloc::Global;
 use std::marker::Model;
@@ -140,6 +141,15 @@ impl<I: PartIndex + Drop> Store<I> {
         ensures { result ≡ next_ghost self.now.entries part key }
     {
         self.inner.parts.next_ghost(part, key)
+    }
+
+    /// The next piece of the range to merge where nobody asked: the range up to the first key at which a run has its
+    /// sixteenth entry of it, live or ghost, or all of it where no run has so many. None, where no run has an entry in
+    /// the range. It wants no memory.
+    pub fn next_in_runs(&self, range: Range) -> Option<Range>
+        ensures { IsNextInRuns self.now.entries range result }
+    {
+        next_in_runs(&self.inner.parts, range)
     }
 
     /// How many transactions are active.

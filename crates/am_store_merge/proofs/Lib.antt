@@ -10,3 +10,4 @@ pub mod LeftRuns
 pub mod MergeSteps
 pub mod Replies
 pub mod CleanSteps
+mod Fronts

@@ -124,17 +124,17 @@ pub record IsStretch (es : List Entry) (held : Holders) (run : ℕ) (range : Int
 
 -- what is read of a run from the beginning of a range on
 module _ (es : List Entry) (rise : IsRising es) (range : Interval) (run : ℕ) where
-  abbrev is_read : Entry → Bool
+  abbrev pub is_read : Entry → Bool
   is_read e = (e.part == run) && is_ge (place_cmp (place_of e) (run, range.lo))
 
   -- in the run, the place tells what the key does
-  read_by_key : (e : Entry) → (e.part == run) ≡ true → is_ge (place_cmp (place_of e) (run, range.lo)) ≡ key_le range.lo
-      e.key
+  pub read_by_key : (e : Entry) → (e.part == run) ≡ true →
+      is_ge (place_cmp (place_of e) (run, range.lo)) ≡ key_le range.lo e.key
   read_by_key e at = ap (λ p. is_ge (place_cmp (p, e.key) (run, range.lo))) (eqb-true e.part run at) ∙
       ap is_ge (place_cmp-same run e.key range.lo) ∙ ge_key range.lo e.key
 
   -- those of the run in the range are those with which it begins
-  read_front : take_while (λ e. within range e.key) (all_from es run range.lo) ≡ filter (in_part run range) es
+  pub read_front : take_while (λ e. within range e.key) (all_from es run range.lo) ≡ filter (in_part run range) es
   read_front =
       front_of is_read (λ e. within range e.key)
       (λ e f less on also inside.

@@ -1,3 +1,4 @@
 pub mod LockHolders
 pub mod Walks
 pub mod Steps
+pub mod Fronts

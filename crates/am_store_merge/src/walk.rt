@@ -66,8 +66,8 @@ fn first_from<I: PartIndex + Drop>(
     None
 }
 
-// The first entry of the range in the run, and a batch of that run.
-fn first_in_run<I: PartIndex + Drop>(
+/// The first entry of the range in the run, and a batch of that run.
+pub(crate) fn first_in_run<I: PartIndex + Drop>(
     parts: &Parts<I>,
     run: u32,
     range: Range,

@@ -67,6 +67,7 @@ mod traces;
 mod transactions;
 mod trees;
 mod trial_lines;
+mod unasked;
 mod undo;
 mod waits;
 mod workers;
