@@ -165,7 +165,10 @@ fn the_next_piece_to_merge_has_sixteen_of_each_run(rt: HostRuntime) -> Result<()
     let range = |lo, hi| Range::new(Key::of_u64(lo), Key::of_u64(hi));
     for (lo, hi, end) in [(20, 500, 65), (20, 65, 65), (20, 39, 39), (260, 500, 500)] {
         let asked = range(lo, hi).expect(&rt, "the ends stand in order");
-        assert!(rt; store.next_in_runs(asked) == range(lo, end), "of {lo} to {hi}");
+        assert!(rt;
+            store.next_in_runs(asked) == range(lo, end),
+            "of {lo} to {hi}"
+        );
     }
     let asked = range(300, 500).expect(&rt, "the ends stand in order");
     assert!(rt; store.next_in_runs(asked).is_none());

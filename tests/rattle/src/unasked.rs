@@ -55,7 +55,10 @@ fn there_is_a_piece_while_a_run_has_something(rt: HostRuntime) {
     ends_at(&rt, &parts, 191, 193, 193);
     ends_at(&rt, &parts, 190, 190, 190);
     for (lo, hi) in [(191, 192), (14, 19), (194, 500)] {
-        assert!(rt; next_in_runs(&parts, range(&rt, lo, hi)).is_none(), "of {lo} to {hi}");
+        assert!(rt;
+            next_in_runs(&parts, range(&rt, lo, hi)).is_none(),
+            "of {lo} to {hi}"
+        );
     }
     let none = no_entries(rt.alloc());
     assert!(rt; next_in_runs(&none, range(&rt, 0, 500)).is_none());
@@ -72,7 +75,10 @@ fn pieces_are_merged_to_the_end(rt: HostRuntime) {
     let mut lo = 0;
     while let Some(piece) = next_in_runs(&parts, range(&rt, lo, 500)) {
         wishes.wish(piece);
-        while !matches!(merge_step(&mut parts, &mut wishes, &locks, 16), Reply::MergeDone) {}
+        while !matches!(
+            merge_step(&mut parts, &mut wishes, &locks, 16),
+            Reply::MergeDone
+        ) {}
         ends[count] = number_of(&piece.hi());
         lo = ends[count];
         count += 1;
