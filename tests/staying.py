@@ -670,6 +670,25 @@ def slow_reader(folder: str) -> None:
     wanted("audit", audit(os.path.join(folder, "taken")), "LEGAL 2000")
 
 
+def nobody_reads(folder: str) -> None:
+    """A trace that nobody takes, in a pipe that is full: a stop with a grace gives it up, however it comes."""
+    pipe = os.path.join(folder, "unread")
+    os.mkfifo(pipe)
+    with open(pipe, "rb", opener=lambda path, flags: os.open(path, flags | os.O_NONBLOCK)) as reader:
+        stops: List[Callable[[Server], object]] = [lambda it: it.tell("STOP\n"), Server.close_input, lambda it: it.process.terminate()]
+        servers = [stay("--grace", "1", trace=pipe) for _ in stops]
+        for server in servers:
+            client = Client(server.port)
+            for number in range(2000):
+                wanted("an answer", client.ask_all(["BEGIN", f"SET a{number} {'v' * 60}", "COMMIT"])[1], "OK")
+            client.quit()
+        for server, stop in zip(servers, stops):
+            stop(server)
+        for server in servers:
+            out, said = server.end(4)
+            wanted("what is said of it", (out, said), ("", f"amserve: {pipe}: nobody takes what is written\namserve: cannot write the trace\n"))
+
+
 def no_files_left() -> None:
     """Where connections can't be accepted that is told once, and later ones are served."""
 
@@ -949,6 +968,7 @@ def main() -> None:
         full_disk(folder)
         full_device()
         slow_reader(folder)
+        nobody_reads(folder)
         no_files_left()
         none_accepted()
         idle_sessions()
