@@ -674,7 +674,7 @@ def nobody_reads(folder: str) -> None:
     """A trace that nobody takes, in a pipe that is full: a stop with a grace gives it up, however it comes."""
     pipe = os.path.join(folder, "unread")
     os.mkfifo(pipe)
-    with open(pipe, "rb", opener=lambda path, flags: os.open(path, flags | os.O_NONBLOCK)) as reader:
+    with open(pipe, "rb", opener=lambda path, flags: os.open(path, flags | os.O_NONBLOCK)):
         stops: List[Callable[[Server], object]] = [lambda it: it.tell("STOP\n"), Server.close_input, lambda it: it.process.terminate()]
         servers = [stay("--grace", "1", trace=pipe) for _ in stops]
         for server in servers:

@@ -18,7 +18,7 @@ from typing import Any, Optional, TypeVar, Union, overload
 from ._grammar import GREATEST_KEY, LEAST_KEY, MAX_LOCKS, MAX_RUN, VALUE
 from ._mapping import MAX_PAGE, MAX_ROWS, Mapped, Runner, first_page, limited, most_of
 from ._records import GREATEST, Record, Records, Text, bytes_of, double_line, first_double, line_runs, range_of, runs_of
-from ._stream import Path
+from ._stream import Path, Place, Port, places_of
 from ._texts import EscapedTexts, Texts, below_key
 from ._tries import MAX_TRIES, Tries, hold
 from ._wire import LAPSED, Active, Wire, actives_of, number_of, refusal, rows_of
@@ -37,21 +37,26 @@ _OK = (b"OK",)
 
 
 def connect(
-    port: Optional[int] = None,
-    path: Optional[Path] = None,
+    port: Union[None, Port, list[Port]] = None,
+    path: Union[None, Path, list[Path]] = None,
     *,
     host: str = "127.0.0.1",
     timeout: Optional[float] = 120.0,
     check_same_thread: bool = True,
     escape: bool = False,
 ) -> Client:
-    """A client of the server or the replica at a port, or at a socket of the file system. An answer is awaited for `timeout`
-    seconds, without end where that is None. `check_same_thread=False` is for who sees to it that threads take turns. With `escape`
+    """A client of the server or the replica at a port, or at a socket of the file system. Replicas of one log are named side by
+    side, as `port=[7001, 7002]`, `port=[("db1", 7001), ("db2", 7001)]` or `path=[..]`: where one can't be reached, has no seat, or
+    goes away, the next transaction begins at the one behind it. An answer is awaited for `timeout` seconds, without end where that is
+    None. `check_same_thread=False` is for who sees to it that threads take turns. With `escape`
     keys and values are any bytes, also none: lines carry them by percent signs, as `amload --escape` does, each such byte as three
     of the 32 and 64 that there are."""
     if (port is None) == (path is None):
         raise TypeError("a client is connected to a port, or to a path")
-    return Client(None if port is None else index(port), path, host, timeout, check_same_thread, escape)
+    places = places_of(port, path, host)
+    if not places:
+        raise ValueError("a client is connected to one place at least")
+    return Client(places, timeout, check_same_thread, escape)
 
 
 class Client(Runner["RemoteTransaction"]):
@@ -59,10 +64,9 @@ class Client(Runner["RemoteTransaction"]):
     transaction begins at another one."""
 
     def __init__(
-        self, port: Optional[int], path: Optional[Path] = None, host: str = "127.0.0.1", timeout: Optional[float] = 120.0,
-        check_same_thread: bool = True, escape: bool = False,
+        self, places: list[Place], timeout: Optional[float] = 120.0, check_same_thread: bool = True, escape: bool = False
     ) -> None:
-        self._place = (port, path, host, timeout)
+        self._places, self._timeout = places, timeout
         self._texts = EscapedTexts() if escape else Texts()
         self._thread = get_ident() if check_same_thread else 0
         self._is_closed = False
@@ -71,7 +75,26 @@ class Client(Runner["RemoteTransaction"]):
         self._wire = self._connected()
 
     def _connected(self) -> Wire:
-        wire = Wire(*self._place)
+        """A connection to the first place that has one, and those behind it come next: what was tried before goes to the end."""
+        for others in reversed(range(len(self._places))):
+            try:
+                return self._connected_to(self._places[0])
+            except (OSError, Refused):
+                if not others:
+                    raise
+                self._pass_over()
+        raise AssertionError
+
+    def _pass_over(self) -> None:
+        self._places = [*self._places[1:], self._places[0]]
+
+    def _anew(self) -> Wire:
+        """A connection in place of one that was lost."""
+        self._pass_over()
+        return self._connected()
+
+    def _connected_to(self, place: Place) -> Wire:
+        wire = Wire(place, self._timeout)
         # (an older server answers that such a line is none, too)
         answer = wire.ask([b"REPLICA"])[0]
         if answer not in (b"REPLICA", b"ERR SYNTAX"):
@@ -104,8 +127,8 @@ class Client(Runner["RemoteTransaction"]):
         self.close()
 
     def __repr__(self) -> str:
-        place = f"port {self._place[0]}" if self._place[1] is None else os.fsdecode(self._place[1])
-        return f"<tiuvrokk.Client, {'closed' if self._is_closed else 'open'}, {'replica' if self.is_replica else 'server'} at {place}>"
+        kind = "replica" if self.is_replica else "server"
+        return f"<tiuvrokk.Client, {'closed' if self._is_closed else 'open'}, {kind} at {self._places[0]}>"
 
     def transaction(self) -> RemoteTransaction:
         """Begins a transaction. As the head of a `with` block it commits at the end of the block, and aborts where an
@@ -116,7 +139,7 @@ class Client(Runner["RemoteTransaction"]):
         if begun is not None and begun.is_active and not begun._is_leaving:
             raise RuntimeError("the client has a transaction, and one at a time: end that first, or connect another client")
         if not self._wire.is_open:
-            self._wire = self._connected()
+            self._wire = self._anew()
         try:
             return RemoteTransaction(self)
         except Refused as refused:
@@ -185,7 +208,7 @@ class Client(Runner["RemoteTransaction"]):
         """The answer to a line that isn't a transaction's."""
         self._stay()
         if not self._wire.is_open:
-            self._wire = self._connected()
+            self._wire = self._anew()
         return self._ask(self._wire, [line])[0]
 
     def merge(self, limit: int = MAX_LIMIT) -> Optional[int]:

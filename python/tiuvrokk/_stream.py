@@ -6,19 +6,44 @@ import os
 import select
 import socket
 from collections import deque
+from operator import index
 from typing import Optional, Union
 
 Path = Union[str, bytes, "os.PathLike[str]"]
+Port = Union[int, "tuple[str, int]"]
+"""A port, of one host or another."""
 PIECE = 1 << 16
 
 
-def connected(port: Optional[int], path: Optional[Path], host: str, timeout: Optional[float]) -> Stream:
-    """A connection to a socket of the file system, where one is named, or else to a port."""
-    connection = socket.socket(socket.AF_UNIX) if path is not None else socket.create_connection((host, port or 0), timeout)
+class Place:
+    """Where a server or a replica is asked: at a port of a host, or at a socket of the file system."""
+
+    def __init__(self, port: Optional[Port] = None, path: Optional[Path] = None, host: str = "127.0.0.1") -> None:
+        self.path = path
+        self.host, self.port = port if isinstance(port, tuple) else (host, index(port or 0))
+
+    def __str__(self) -> str:
+        if self.path is not None:
+            return os.fsdecode(self.path)
+        return f"port {self.port}" + f" of {self.host}" * (self.host != "127.0.0.1")
+
+
+def places_of(port: Union[None, Port, list[Port]], path: Union[None, Path, list[Path]], host: str) -> list[Place]:
+    """The places of some ports, or of some sockets of the file system."""
+    if path is not None:
+        return [Place(path=it) for it in (path if isinstance(path, list) else [path])]
+    ports = port if isinstance(port, list) else [] if port is None else [port]
+    return [Place(it, host=host) for it in ports]
+
+
+def connected(place: Place, timeout: Optional[float]) -> Stream:
+    """A connection to a place."""
+    by_path = place.path is not None
+    connection = socket.socket(socket.AF_UNIX) if by_path else socket.create_connection((place.host, place.port), timeout)
     try:
-        if path is not None:
+        if place.path is not None:
             connection.settimeout(timeout)
-            connection.connect(os.fspath(path))
+            connection.connect(os.fspath(place.path))
         else:
             connection.setsockopt(socket.IPPROTO_TCP, socket.TCP_NODELAY, 1)
         return Stream(connection, timeout)

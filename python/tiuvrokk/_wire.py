@@ -6,7 +6,7 @@ import re
 from collections.abc import Sequence
 from typing import NamedTuple, Optional
 
-from ._stream import Path, connected
+from ._stream import Place, connected
 from ._texts import Texts
 from .errors import Absent, Bad, Busy, Conflict, Disconnected, Error, Exists, Held, Lapsed, NoMark, NoTransaction, OutOfMemory
 from .errors import Refused, Status, TooMany, Twice, Unknown, Unreachable
@@ -66,8 +66,8 @@ class Wire:
     """A connection, by lines and their answers. Where anything comes between, an interrupt too, it is closed: answers that come
     later would be taken for others'. The other side then aborts what was active."""
 
-    def __init__(self, port: Optional[int], path: Optional[Path], host: str, timeout: Optional[float]) -> None:
-        self._stream = connected(port, path, host, timeout)
+    def __init__(self, place: Place, timeout: Optional[float]) -> None:
+        self._stream = connected(place, timeout)
         self.is_open = True
 
     def close(self) -> None:

@@ -22,13 +22,13 @@ from concurrent.futures import ThreadPoolExecutor
 from contextlib import asynccontextmanager
 from contextvars import ContextVar
 from functools import partial, wraps
-from typing import TYPE_CHECKING, Any, Optional, TypeVar
+from typing import TYPE_CHECKING, Any, Optional, TypeVar, Union
 
 from . import _client
 from ._client import RemoteTransaction
 from ._mapping import first_page, most_of
 from ._records import GREATEST, Record, Text
-from ._stream import Path
+from ._stream import Path, Port
 from ._tries import MAX_TRIES, TRIED_AGAIN, Tries
 from .errors import Closed, Forked
 
@@ -123,8 +123,8 @@ class Client:
     """A session, as `tiuvrokk.connect` makes one, which is connected at the head of an `async with` block, or where it is awaited."""
 
     def __init__(
-        self, port: Optional[int] = None, path: Optional[Path] = None, *, host: str = "127.0.0.1", timeout: Optional[float] = 120.0,
-        escape: bool = False,
+        self, port: Union[None, Port, list[Port]] = None, path: Union[None, Path, list[Path]] = None, *,
+        host: str = "127.0.0.1", timeout: Optional[float] = 120.0, escape: bool = False,
     ) -> None:
         self._connect = partial(_client.connect, port, path, host=host, timeout=timeout, check_same_thread=False, escape=escape)
         self._client: Optional[_client.Client] = None

@@ -18,6 +18,7 @@ from typing import Any, Optional
 
 from ._client import Client
 from ._client import RemoteTransaction as Transaction
+from ._stream import Place
 from ._tries import MAX_TRIES
 from .errors import Conflict, Refused, Unknown, Unreachable
 
@@ -28,7 +29,7 @@ class Session(Client):
     """A client of the replica at a port."""
 
     def __init__(self, port: int, host: str = "127.0.0.1", timeout: Optional[float] = None) -> None:
-        super().__init__(port, None, host, timeout)
+        super().__init__([Place(port, host=host)], timeout)
 
     def transaction(self, function: Optional[Callable[[Transaction], Any]] = None, tries: int = MAX_TRIES) -> Any:
         """Runs the function in a transaction, as `run` does; without one it begins one."""

@@ -138,11 +138,12 @@ def numbers(least: int, greatest: int) -> Callable[[str], int]:
 
 def add_server(parser: Parser, is_needed: bool) -> None:
     """The words that name a server, by its port or its socket."""
-    port, path = "the port of a server at 127.0.0.1", "the socket of a server in the file system"
+    port = "the port of a server at 127.0.0.1; of replicas each: the first that can be reached is asked"
+    path = "the socket of a server in the file system, or of replicas each"
     wait = "seconds that an answer is waited for at most (default: 120)"
     place = parser.add_mutually_exclusive_group(required=is_needed)
-    place.add_argument("--port", type=numbers(1, 65535), metavar="P", help=port)
-    place.add_argument("--socket", metavar="PATH", help=path)
+    place.add_argument("--port", type=numbers(1, 65535), action="append", metavar="P", help=port)
+    place.add_argument("--socket", action="append", metavar="PATH", help=path)
     parser.add_argument("--wait", type=numbers(1, 999_999), default=120, metavar="S", help=wait)
 
 

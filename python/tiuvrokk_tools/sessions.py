@@ -6,7 +6,7 @@ import socket
 import subprocess
 from typing import IO, Optional, Protocol, Sequence
 
-from tiuvrokk._stream import connected
+from tiuvrokk._stream import Place, connected
 from tiuvrokk._wire import refusal
 
 from .program import Stop, visible
@@ -118,12 +118,14 @@ def names_server(asked: argparse.Namespace) -> bool:
 
 
 def with_server(asked: argparse.Namespace) -> Session:
-    """A session with the server that the words name."""
-    place = asked.socket or f"port {asked.port}"
-    try:
-        return Session(place, connected(asked.port, asked.socket, "127.0.0.1", asked.wait))
-    except OSError as error:
-        raise fault_of(place, error) from None
+    """A session with the server that the words name, or with the first one of several that can be reached."""
+    places = [Place(path=it) for it in asked.socket or ()] or [Place(it) for it in asked.port]
+    for place in places:
+        try:
+            return Session(str(place), connected(place, asked.wait))
+        except OSError as error:
+            fault = fault_of(str(place), error)
+    raise fault from None
 
 
 class Pipes:
