@@ -4,12 +4,15 @@ ghost use Rattle.std.specs.Prelude.{◌≡◌, None, Ok, length};
 ghost use Rattle.am_record.specs.declared.step.Step.TheVariants.{Merge};
 ghost use Rattle.am_c_steps.specs.AskedSteps.{clean_asked};
 ghost use Rattle.am_c_steps.specs.Statuses.{status, number};
+ghost use Rattle.am_c_steps.specs.Texts.{range_given};
+ghost use Rattle.am_c_store.specs.Fronts.{TellsFront};
 ghost use Rattle.am_c_store.specs.StoreSteps.{Tells, Opens, Closes, IsNumberTold};
 ghost use Rattle.am_c_store.specs.StoreFigures.{TellsFigures};
 
-use am_c_steps::clean_asked;
+use am_c_steps::{KeyText, clean_asked, range_given};
 use am_c_store::{
     Handle, StoreFigures, close_store, open_store, tell, tell_commits, tell_entries, tell_figures,
+    tell_next_in_runs,
 };
 use am_record::{HashKey, Step};
 use std::alloc::Global;
@@ -59,6 +62,21 @@ pub extern "C" fn tiuvrokk_clean(
         (λ answer. (result ≡ status answer) × (told.new ≡ number answer)) }
 {
     tell(alloc, store, clean_asked(lo, hi, limit), told)
+}
+
+/// Where the next piece of a range to merge ends, where nobody asked: each run has at most 16 entries up to that key.
+#[unsafe(no_mangle)]
+pub extern "C" fn tiuvrokk_next_in_runs(
+    alloc: Global,
+    store: &mut Handle,
+    lo: &[u8],
+    hi: &[u8],
+    end: &mut KeyText,
+) -> u32
+    ensures told { TellsFront store.old.held (range_given lo.now hi.now) end.old result end.new }
+    ensures kept { store.new.held ≡ store.old.held }
+{
+    tell_next_in_runs(alloc, store, range_given(lo, hi), end)
 }
 
 /// How many transactions committed.

@@ -22,4 +22,4 @@ pub use lines::GivenLines;
 pub use load_answers::{LoadFailure, failure_of, tell_load_key, without_key};
 pub use status::{Status, number_told, status_told};
 pub use structs::{Layout, Structs, structs_asked};
-pub use text::{KeyText, Record, ValueText};
+pub use text::{KeyText, Record, ValueText, range_given};

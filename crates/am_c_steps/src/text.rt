@@ -52,7 +52,7 @@ pub(crate) fn value_given(bytes: &[u8]) -> Result<Value, Status>
 }
 
 /// The range from one key to another, or BadKey, or BadRange where they don't stand in order.
-pub(crate) fn range_given(lo: &[u8], hi: &[u8]) -> Result<Range, Status>
+pub fn range_given(lo: &[u8], hi: &[u8]) -> Result<Range, Status>
     ensures { result ≡ range_given lo.now hi.now }
 {
     let lo = key_given(lo)?;
@@ -65,7 +65,7 @@ pub(crate) fn range_given(lo: &[u8], hi: &[u8]) -> Result<Range, Status>
 
 impl KeyText {
     /// The key as C holds it.
-    pub(crate) fn of(key: &Key) -> KeyText
+    pub fn of(key: &Key) -> KeyText
         ensures { result ≡ key_text key.now }
     {
         KeyText {

@@ -1,3 +1,4 @@
+pub mod Fronts
 pub mod Loads
 pub mod StoreFigures
 pub mod StoreRow
