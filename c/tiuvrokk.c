@@ -1,6 +1,6 @@
 /* The calls of tiuvrokk.h over the exports of crates/am_c, which take no null pointer: here each pointer is tested, and each
  * limit, so that all faults of a call's arguments are told before the store is asked; a store gets its hash key; and a commit
- * cleans some of what was deleted. Nothing else is done. */
+ * cleans some of what was deleted, and merges some of what nobody reads. Nothing else is done. */
 #define _DEFAULT_SOURCE /* getentropy */
 #include "tiuvrokk.h"
 #include "hash_words.h"
@@ -51,6 +51,7 @@ uint32_t tiuvrokk_delete_range(tvk_store *store, uint64_t tx, const void *lo, si
 uint32_t tiuvrokk_lock(tvk_store *store, uint64_t tx, uint32_t mode, const void *lo, size_t lo_length, const void *hi,
                        size_t hi_length, uint64_t *told);
 uint32_t tiuvrokk_merge(tvk_store *store, uint64_t limit, uint64_t *told);
+uint32_t tiuvrokk_next_in_runs(tvk_store *store, const void *lo, size_t lo_length, const void *hi, size_t hi_length, tvk_key *end);
 uint32_t tiuvrokk_clean(tvk_store *store, const void *lo, size_t lo_length, const void *hi, size_t hi_length,
                         uint64_t limit, uint64_t *told);
 uint32_t tiuvrokk_commits(tvk_store *store, uint64_t *told);
@@ -139,9 +140,9 @@ tvk_status tvk_begin(tvk_store *store, uint64_t *told) {
     return tiuvrokk_begin(store, told);
 }
 
-static atomic_int cleans = 1;
+static atomic_int keeps_up = 1;
 
-void tvk_upkeep(int on) { atomic_store(&cleans, on); }
+void tvk_upkeep(int on) { atomic_store(&keeps_up, on); }
 
 /* One clean step finds 64 ghosts at most, and walks to them from the beginning of the index: so it is made where one entry of
  * 64 is a ghost. A transaction that deletes one by one deletes no more records than so many steps clean, and one that deletes
@@ -166,11 +167,76 @@ static void clean_some(tvk_store *store) {
         if (tiuvrokk_clean(store, no_bytes, 0, TVK_GREATEST_KEY, TVK_MAX_KEY, TVK_MAX_LIMIT, &cleaned)) return;
 }
 
+/* Reads what comes next in runs from the key on, which leaves the wish to merge it, and says whether it did; the key is then that
+ * at which it goes on. What others have locked is passed over. The transaction is aborted, so that the numbers of commits are those
+ * of the program's own. */
+static int ask_for_next(tvk_store *store, tvk_key *from) {
+    tvk_record row;
+    uint64_t tx, told;
+    tvk_status status = TVK_BUSY;
+    int tries;
+    for (tries = 0; tries < 4 && status == TVK_BUSY; tries++) {
+        tvk_key end;
+        if (tiuvrokk_next_in_runs(store, from->bytes, from->length, TVK_GREATEST_KEY, TVK_MAX_KEY, &end)) return 0;
+        if (tiuvrokk_begin(store, &tx)) return 0;
+        status = tiuvrokk_scan(store, tx, from->bytes, from->length, end.bytes, end.length, &row, 1, &told);
+        tiuvrokk_abort(store, tx, &told);
+        *from = end;
+    }
+    return status == TVK_OK;
+}
+
+/* Takes so many steps of a merge: of what was read, and then of what nobody reads. Tells how many entries were worked off. */
+static tvk_status merge_some(tvk_store *store, uint64_t steps, uint64_t *all) {
+    tvk_key from = {0, {0}};
+    for (*all = 0; steps; steps--) {
+        uint64_t told;
+        tvk_status status = tiuvrokk_merge(store, TVK_MAX_LIMIT, &told);
+        if (status == TVK_NO_MEMORY) return status;
+        if (status == TVK_OK) *all += told;
+        if (status == TVK_IDLE && !ask_for_next(store, &from)) break;
+    }
+    return TVK_OK;
+}
+
+/* Where so many runs have entries a commit merges, and takes a step more for each RUNS_TO_A_STEP: then runs don't get many more,
+ * whether a program loads little at once or much. */
+#define FEW_RUNS 64
+#define RUNS_TO_A_STEP 128
+#define MOST_MERGES 16
+
+static void merge_where_runs_are_many(tvk_store *store) {
+    tvk_figures_t figures;
+    uint64_t steps, worked_off;
+    if (tiuvrokk_figures(store, &figures) || figures.runs <= FEW_RUNS) return;
+    steps = 1 + figures.runs / RUNS_TO_A_STEP;
+    merge_some(store, steps < MOST_MERGES ? steps : MOST_MERGES, &worked_off);
+}
+
 tvk_status tvk_commit(tvk_store *store, uint64_t tx, uint64_t *told) {
     tvk_status status;
     BEGIN;
     status = tiuvrokk_commit(store, tx, told);
-    if (status == TVK_OK && atomic_load_explicit(&cleans, memory_order_relaxed)) clean_some(store);
+    if (status == TVK_OK && atomic_load_explicit(&keeps_up, memory_order_relaxed)) {
+        clean_some(store);
+        merge_where_runs_are_many(store);
+    }
+    return status;
+}
+
+/* How many steps of a merge a call takes that has time, and how many entries there may be to a ghost for it to clean. */
+#define STEPS_OF_A_CALL 4
+#define ENTRIES_TO_A_GHOST_LEFT 1024
+
+tvk_status tvk_tidy(tvk_store *store, uint64_t *told) {
+    tvk_figures_t figures;
+    uint64_t done;
+    tvk_status status;
+    BEGIN;
+    status = merge_some(store, STEPS_OF_A_CALL, &done);
+    if (!status && !done && !tiuvrokk_figures(store, &figures) && figures.ghosts > figures.entries / ENTRIES_TO_A_GHOST_LEFT)
+        status = tiuvrokk_clean(store, no_bytes, 0, TVK_GREATEST_KEY, TVK_MAX_KEY, TVK_MAX_LIMIT, &done);
+    *told = !status && done;
     return status;
 }
 

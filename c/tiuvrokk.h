@@ -38,9 +38,10 @@
  * until the transaction ends. A lock is granted or refused at once: no call waits. TVK_BUSY names the transaction that is
  * in the way; the caller may do something else, abort, or try again once that one has ended.
  *
- * UPKEEP. Loaded records are merged where tvk_merge is called; reads pass over what isn't, so a program calls it now and then, as
- * after each commit. Deleted records stay, marked, and reads pass over them, too: a commit takes some of them away where one
- * entry of 64 is one, unless tvk_upkeep says otherwise, and tvk_clean does. None of this changes what anybody reads.
+ * UPKEEP. Loaded records stay in their runs until they are merged, and deleted ones, marked, until they are cleaned away; reads
+ * pass over both, and none of this changes what anybody reads. Unless tvk_upkeep says otherwise, a commit does some of it: it
+ * merges where more than 64 runs have entries, first what was read, and cleans where one entry of 64 is marked. A program that
+ * has time calls tvk_tidy, which does some of all that is left; tvk_merge merges only what was read, and tvk_clean cleans.
  *
  * BAD USE that the library can see is answered by a status and changes nothing: a null pointer, a handle without a store,
  * a length, limit or mode out of bounds. What it can't see is the caller's to uphold: a handle is TVK_CLOSED before it is
@@ -194,10 +195,11 @@ const char *tvk_text(tvk_status status);
 /** The version of the library that is linked, as TVK_VERSION has that of the header. It is a constant. */
 const char *tvk_version(void);
 
-/** Whether commits take away what was deleted, of all stores of the program, as they do at first. A commit takes away 4,160 entries
- * at most, and none where fewer than one of 64, or than 64, are marked as deleted.
+/** Whether commits merge and clean, of all stores of the program, as they do at first. A commit merges where more than 64 runs have
+ * entries: 64 entries, and as many more for each 128 runs, 1,024 at most. It takes away 4,160 entries at most of those that are
+ * marked as deleted, and none where fewer than one of 64, or than 64, are.
  *
- * @param on  0 leaves it to tvk_clean
+ * @param on  0 leaves it to tvk_tidy, tvk_merge and tvk_clean
  */
 void tvk_upkeep(int on);
 
@@ -816,6 +818,20 @@ tvk_status tvk_lock(tvk_store *store, uint64_t tx, tvk_mode mode, const void *lo
  * @retval TVK_NO_MEMORY  memory was refused
  */
 tvk_status tvk_merge(tvk_store *store, uint64_t limit, uint64_t *told);
+
+/** Does some of what is left to merge and to clean: merges up to 256 entries, first where was read, then by rising keys what
+ * nobody reads; and where nothing is left to merge cleans up to 64, if one entry of 1,024 is marked as deleted. A program calls it
+ * while it has nothing else to do and `told` is 1. No transaction sees a difference.
+ *
+ * @param[in,out] store  the store
+ * @param[out] told      1 where something was merged or cleaned, so that more may be left; 0 where nothing is left, or nothing
+ *                       but what transactions have locked
+ *
+ * @retval TVK_OK         `told` says whether another call may do more
+ * @retval TVK_NO_STORE   the handle is NULL or has no store
+ * @retval TVK_NO_MEMORY  memory was refused
+ */
+tvk_status tvk_tidy(tvk_store *store, uint64_t *told);
 
 /** Takes away entries of a range that are marked as deleted. No transaction sees a difference.
  *

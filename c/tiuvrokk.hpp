@@ -592,6 +592,13 @@ public:
         return told;
     }
 
+    /* Does some of what is left to merge and to clean, and tells whether it did anything: another call may do more then. */
+    bool tidy() {
+        std::uint64_t told = 0;
+        detail::check(tvk_tidy(store_.get(), &told), {});
+        return told;
+    }
+
     /* One clean step: takes away entries that are marked as deleted, and tells how many. */
     std::uint64_t clean(std::string_view lo = {}, std::string_view hi = GREATEST, std::uint64_t limit = TVK_MAX_LIMIT) {
         std::uint64_t told = 0;

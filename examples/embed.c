@@ -50,7 +50,8 @@ static int count(tvk_store *store, uint64_t tx, uint32_t sensor) {
 int main(void) {
     static reading batch[BATCH];
     tvk_store store = TVK_CLOSED;
-    uint64_t writer, reader, told, merged = 0;
+    uint64_t writer, reader, told;
+    tvk_figures_t figures;
     int found = 0, waits = 0;
     must(tvk_open(&store), "open");
     for (uint32_t b = 0; b < BATCHES; b++) {
@@ -66,8 +67,10 @@ int main(void) {
         must(tvk_commit(&store, reader, NULL), "commit");
         must(load(&store, writer, batch, NULL), "load");
         must(tvk_commit(&store, writer, NULL), "commit");
-        for (int step = 0; step < 4 && tvk_merge(&store, TVK_MAX_LIMIT, &told) == TVK_OK; step++) merged += told;
+        /* Nothing else is to do until the next batch comes, so some of what isn't merged is. */
+        must(tvk_tidy(&store, NULL), "tidy");
     }
-    printf("loaded %d, waited %d times, read %d, merged %" PRIu64 "\n", BATCHES * BATCH, waits, found, merged);
+    must(tvk_figures(&store, &figures), "figures");
+    printf("loaded %d, waited %d times, read %d, merged %" PRIu64 "\n", BATCHES * BATCH, waits, found, figures.in_final);
     must(tvk_close(&store), "close");
 }

@@ -51,7 +51,7 @@ std::vector<Reading> batch_of(std::uint32_t number) {
 
 int main() {
     tiuvrokk::Store store;
-    std::uint64_t loaded = 0, merged = 0;
+    std::uint64_t loaded = 0;
     double last = 0;
     for (std::uint32_t number = 0; number < BATCHES; number++) {
         std::vector<std::pair<std::string, std::string>> records;
@@ -67,7 +67,8 @@ int main() {
             loaded += writer.load(records);
         }
         writer.commit();
-        for (int step = 0; step < 4; step++) merged += store.merge().value_or(0);
+        // Nothing else is to do until the next batch comes, so some of what isn't merged is.
+        store.tidy();
     }
-    std::cout << "loaded " << loaded << ", the mean " << last << ", merged " << merged << '\n';
+    std::cout << "loaded " << loaded << ", the mean " << last << ", merged " << store.figures().in_final << '\n';
 }

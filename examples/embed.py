@@ -40,7 +40,7 @@ def mean(tx: tiuvrokk.Transaction, sensor: int) -> float:
 
 
 def main() -> None:
-    loaded = waits = merged = 0
+    loaded = waits = 0
     last = 0.0
     with tiuvrokk.Store() as store:
         for number in range(BATCHES):
@@ -54,8 +54,9 @@ def main() -> None:
                         waits += busy.holder == reader.number
                 # The reader had locked what it read: it has ended by now, so the load is tried again.
                 loaded += writer.load(records)
-            for _ in range(4):
-                merged += store.merge() or 0
+            # Nothing else is to do until the next batch comes, so some of what isn't merged is.
+            store.tidy(seconds=0)
+        merged = store.figures().in_final
     print(f"loaded {loaded}, waited {waits} times, the mean {last}, merged {merged}")
 
 

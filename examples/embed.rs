@@ -44,7 +44,7 @@ fn load(tx: &mut Transaction, batch: &[Reading]) -> Result<u64, LoadError> {
 
 fn main() -> Result<(), Error> {
     let store = Store::open()?;
-    let (mut loaded, mut waits, mut found, mut merged) = (0, 0, 0, 0);
+    let (mut loaded, mut waits, mut found) = (0, 0, 0);
     for number in 0..BATCHES {
         let batch = batch_of(number);
         let (reader, mut writer) = (store.transaction()?, store.transaction()?);
@@ -61,11 +61,10 @@ fn main() -> Result<(), Error> {
             done => done?,
         };
         writer.commit()?;
-        for _ in 0..4 {
-            let Merge::Moved(count) = store.merge(64)? else { break };
-            merged += count;
-        }
+        // Nothing else is to do until the next batch comes, so some of what isn't merged is.
+        store.tidy()?;
     }
+    let merged = store.figures().in_final;
     println!("loaded {loaded}, waited {waits} times, read {found}, merged {merged}");
     Ok(())
 }

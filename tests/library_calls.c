@@ -668,6 +668,50 @@ static void test_upkeep(void) {
     tvk_upkeep(1);
 }
 
+/* Loads so many runs of 64 records by as many commits, keys of all in between those of each, and tells how many are left. */
+static uint64_t runs_behind(tvk_store *own, int runs) {
+    static tvk_record few[64];
+    tvk_figures_t figures;
+    uint64_t tx, told;
+    for (int run = 0; run < runs; run++) {
+        if (tvk_begin(own, &tx)) fail("a transaction of a run");
+        for (int i = 0; i < 64; i++) few[i].key.length = (size_t)snprintf((char *)few[i].key.bytes, TVK_MAX_KEY, "%02d %06d", i, run * 7919 % 100003);
+        if (tvk_load(own, tx, few, 64, NULL, NULL)) fail("a run of 64");
+        if (tvk_commit(own, tx, &told)) fail("the commit of a run");
+    }
+    if (tvk_figures(own, &figures) || figures.entries != 64 * (uint64_t)runs) fail("the records of runs");
+    if (told != figures.commits || told != (uint64_t)runs) fail("a commit's number beside upkeep");
+    return figures.runs;
+}
+
+/* How often tidy has something to do. */
+static int tidied(tvk_store *own) {
+    uint64_t more = 1;
+    int calls = -1;
+    for (; more; calls++)
+        if (tvk_tidy(own, &more)) fail("tidy");
+    return calls;
+}
+
+/* What nobody reads is merged: a part by commits where runs are many, and all by whoever has time, but what is locked. */
+static void test_unasked(void) {
+    tvk_store own = TVK_CLOSED;
+    tvk_figures_t figures;
+    uint64_t tx;
+    if (tvk_open(&own) || runs_behind(&own, 64) != 64) fail("64 runs are merged unasked");
+    if (tvk_close(&own) || tvk_open(&own) || runs_behind(&own, 3000) > 400) fail("runs that nobody reads stay");
+    if (tvk_close(&own) || tvk_open(&own)) fail("a store of runs");
+    tvk_upkeep(0);
+    if (runs_behind(&own, 200) != 200) fail("a commit merges where it is told not to");
+    tvk_upkeep(1);
+    if (tvk_begin(&own, &tx) || tvk_lock(&own, tx, TVK_EXCLUSIVE, NULL, 0, TVK_GREATEST_KEY, TVK_MAX_KEY, NULL)) fail("a lock of all");
+    if (tidied(&own) || tvk_figures(&own, &figures) || figures.runs != 200 || figures.active != 1) fail("tidy beside a lock of all");
+    if (tvk_abort(&own, tx)) fail("the end of a lock of all");
+    if (tidied(&own) < 50 || tvk_figures(&own, &figures) || figures.runs || figures.in_final != 12800 || figures.active) fail("tidy leaves runs");
+    if (tvk_close(&own)) fail("a store without runs");
+    if (tvk_tidy(&own, &tx) != TVK_NO_STORE || tvk_tidy(NULL, NULL) != TVK_NO_STORE) fail("tidy without a store");
+}
+
 /* Loads of more records than a session could stage: by rising key in one run, and in any order in five. */
 enum { MANY = 300000, RUN = 65536, LINE = 18 };
 
@@ -804,6 +848,7 @@ int main(int words, char **word) {
     if (tvk_close(&store) != TVK_NO_STORE) fail("a closed store is closed again");
     if (may_refuse) return 0;
     test_upkeep();
+    test_unasked();
     test_large_loads();
     printf("library: %ld calls, %llu commits, %llu loads;", number, (unsigned long long)commits, (unsigned long long)loads);
     for (int status = 0; status <= TVK_BAD_LINE; status++)

@@ -348,6 +348,20 @@ def check_queue() -> None:
         wanted("ghosts behind it", store.figures().ghosts < 64, True)
 
 
+def check_tidy() -> None:
+    """What nobody reads is merged by commits where runs are many, and all of it where a program has time."""
+    with tiuvrokk.Store() as store:
+        for number in range(2000):
+            with store.transaction() as tx:
+                tx.load({f"{place:02} {number * 7919 % 100003:06}": "1" for place in range(64)})
+        wanted("few runs", store.figures().runs < 400, True)
+        wanted("a commit for each", store.commits, 2000)
+        wanted("a piece", store.tidy(seconds=0), True)
+        wanted("all of it", store.tidy(seconds=LIMIT), False)
+        wanted("no run", store.figures()[1:4], (128_000, 0, 0))
+        wanted("nothing to do", store.tidy(), False)
+
+
 def check_one_read() -> None:
     """`list` and `dict` of a transaction read each page once, by one lock."""
     with tiuvrokk.Store() as store:
@@ -653,6 +667,7 @@ def main() -> None:
         check_editable(folder)
         check_closed_within()
         check_queue()
+        check_tidy()
         check_one_read()
         check_shared()
         check_ends()

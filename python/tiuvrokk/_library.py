@@ -16,7 +16,7 @@ from collections.abc import Callable
 _LONG = ["open", "close", "abort", "load", "load_structs", "load_text", "put"]
 _SHORT = [
     "begin", "commit", "mark", "back", "get", "insert", "replace", "set", "delete", "delete_range", "scan", "scan_behind",
-    "scan_back", "scan_before", "lock", "merge", "clean", "commits", "entries", "figures", "upkeep",
+    "scan_back", "scan_before", "lock", "merge", "tidy", "clean", "commits", "entries", "figures", "upkeep",
 ]
 
 _ADVICE = "./install-library PREFIX installs it from the sources, and TIUVROKK_LIBRARY=PREFIX/lib/libtiuvrokk.so names it"
@@ -78,6 +78,7 @@ calls, holding_calls = Calls(False), Calls(True)
 
 
 def upkeep(on: bool) -> None:
-    """Whether commits of all stores of this program clean some of what was deleted, as they do at first. Without that who deletes
-    calls `Store.clean` from time to time: scans pass over what is marked as deleted."""
+    """Whether commits of all stores of this program clean some of what was deleted, and merge where more than 64 runs have entries,
+    as they do at first. Without that who loads or deletes calls `Store.tidy` from time to time: scans pass over what isn't merged,
+    and over what is marked as deleted."""
     calls.upkeep(ctypes.c_int(on))

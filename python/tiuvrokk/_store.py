@@ -6,6 +6,7 @@ import ctypes
 import io
 import itertools
 import os
+import time
 import warnings
 import weakref
 from collections.abc import Callable, Iterable, Iterator
@@ -151,6 +152,16 @@ class Store(Runner["Transaction"]):
         if status:
             raise error_of(status)
         return told[0]
+
+    def tidy(self, seconds: float = 0.001) -> bool:
+        """Merges what is left, first where was read, and then cleans, until so many seconds have passed or nothing is left but what
+        transactions have locked. Answers whether more may be left. A program calls it where it would wait."""
+        told, end = Number(), time.monotonic() + seconds
+        while True:
+            if status := self._calls.tidy(self._use(), told):
+                raise error_of(status)
+            if not told[0] or time.monotonic() >= end:
+                return bool(told[0])
 
     def clean(self, lo: Text = b"", hi: Text = GREATEST, limit: int = MAX_LIMIT) -> int:
         """One clean step: takes away at most `limit` entries that are marked as deleted, and answers how many."""

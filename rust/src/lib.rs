@@ -125,6 +125,18 @@ impl Store {
         }
     }
 
+    /// Does some of what is left to merge, first where was read, and then to clean, within a few hundred microseconds. Whether it did
+    /// anything: another call may do more then. What transactions have locked stays. Commits do a part of it by themselves, unless
+    /// [`set_upkeep`] says otherwise.
+    ///
+    /// # Errors
+    /// [`Error::NoMemory`].
+    pub fn tidy(&self) -> Result<bool, Error> {
+        let mut told = 0;
+        // SAFETY: the handle is open, and the number is this function's.
+        check(unsafe { library::tvk_tidy(self.at(), &mut told) }, Told::default()).map(|()| told > 0)
+    }
+
     /// Takes away entries of a range that are marked as deleted: at most so many, 1 to 64. How many they were. Commits do so by
     /// themselves, unless [`set_upkeep`] says otherwise.
     ///
@@ -159,7 +171,8 @@ impl fmt::Debug for Store {
     }
 }
 
-/// Whether commits of all stores of this program clean some of what was deleted, as they do at first.
+/// Whether commits of all stores of this program clean some of what was deleted, and merge where more than 64 runs have entries, as
+/// they do at first.
 pub fn set_upkeep(on: bool) {
     // SAFETY: it takes any number.
     unsafe { library::tvk_upkeep(c_int::from(on)) };

@@ -168,6 +168,7 @@ extern "C" {
         holder: *mut u64,
     ) -> c_int;
     pub(crate) fn tvk_merge(store: *mut Handle, limit: u64, told: *mut u64) -> c_int;
+    pub(crate) fn tvk_tidy(store: *mut Handle, told: *mut u64) -> c_int;
     pub(crate) fn tvk_clean(
         store: *mut Handle,
         lo: *const u8,
