@@ -1,6 +1,7 @@
 #!/usr/bin/env python3
 """Who is in the way, and an end to it, from outside. `WHO` tells the sessions that have a transaction active, each with that and the
-seconds since its last line; `END s` ends a session as if its client were gone. Both are answered at any time."""
+seconds since its last line, and `WHO ALL` all sessions; `END s` ends a session as if its client were gone. They are answered at any
+time."""
 
 import os
 import signal
@@ -52,6 +53,14 @@ def who(client: Client) -> Dict[int, Tuple[int, int]]:
     return {session: (tx, seconds) for session, tx, seconds in rows}
 
 
+def served(client: Client) -> Dict[int, Tuple[int, int, str]]:
+    """The transaction of each session, 0 where it has none, the seconds since its last line, and whether it holds or waits."""
+    word, count, *told = client.ask("WHO ALL").split(" ")
+    rows = [row.split(":") for row in told]
+    wanted("how many are served", (word, count, len({row[0] for row in rows})), ("WHO", str(len(rows)), len(rows)))
+    return {int(row[0]): (int(row[1]), int(row[2]), "".join(row[3:])) for row in rows}
+
+
 def is_closed(client: Client) -> bool:
     """Whether the server closed the connection."""
     try:
@@ -62,8 +71,8 @@ def is_closed(client: Client) -> bool:
 
 def lines() -> None:
     """The lines by themselves, alone: its own number is 0, and behind the END of that nothing is answered."""
-    said = alone(["WHO", "END 1", "END", "END x", "END 1 2", "WHO 1", "BEGIN", "WHO", "INS a 1", "COMMIT", "BEGIN", "WHO", "END 7", "END 0", "WHO"])
-    right = ["WHO 0", "ERR SESSION", *["ERR SYNTAX"] * 4, "BEGUN 1", "WHO 1 0:1:0", "OK", "COMMITTED 1", "BEGUN 2", "WHO 1 0:2:0", "ERR SESSION", "OK"]
+    said = alone(["WHO", "END 1", "END", "END x", "END 1 2", "WHO 1", "WHO ALL 1", "WHO ", "WHO all", "WHO ALL", "BEGIN", "WHO", "WHO ALL", "INS a 1", "COMMIT", "BEGIN", "WHO", "END 7", "END 0", "WHO"])
+    right = ["WHO 0", "ERR SESSION", *["ERR SYNTAX"] * 7, "WHO 1 0:0:0", "BEGUN 1", *["WHO 1 0:1:0"] * 2, "OK", "COMMITTED 1", "BEGUN 2", "WHO 1 0:2:0", "ERR SESSION", "OK"]
     wanted("alone", said, right)
     wanted("beyond numbers", alone(["END 18446744073709551615", "END 18446744073709551616"]), ["ERR SESSION", "ERR RANGE"])
 
@@ -126,6 +135,47 @@ def entries() -> None:
         if time.monotonic() - begun > LIMIT:
             fail("a lost connection's transaction is told for ever")
         time.sleep(0.01)
+    asking.quit()
+    stopped(server)
+
+
+def all_sessions() -> None:
+    """All that are served: a silent one too, who has a transaction, who holds, and who waits for that, or to hold."""
+    server = staying("--workers", "0")
+    asking, silent, holder, waiting = (Client(server.port) for _ in range(4))
+    numbers = [number_of(it) for it in (asking, silent, holder, waiting)]
+    own, its, holds, waits = numbers
+    time.sleep(1.2)
+    wanted("the asking one", asking.ask("SEEN").split()[1], str(own))
+    told = served(asking)
+    wanted("each once", (sorted(told), told[own]), (sorted(numbers), (0, 0, "")))
+    wanted("a silent one", (told[its][0], 1 <= told[its][1] <= 1 + MARGIN, told[its][2]), (0, True, ""))
+    tx = int(silent.ask("BEGIN").split()[1])
+    holder.socket.sendall(b"HOLD 60000\n")
+    time.sleep(0.3)
+    told = served(asking)
+    wanted("who has a transaction", told[its], (tx, 0, ""))
+    wanted("who would hold", (told[holds][0], told[holds][2]), (0, "w"))
+    wanted("WHO tells no marks", who(asking), {its: (tx, 0)})
+    wanted("it commits", silent.ask("COMMIT").split()[0], "COMMITTED")
+    wanted("then it holds", holder.reply(), "OK")
+    wanted("its own transaction", holder.ask("BEGIN").split()[0], "BEGUN")
+    waiting.socket.sendall(b"BEGIN\n")
+    time.sleep(0.3)
+    told = served(asking)
+    wanted("who holds", (told[holds][0] > tx, told[holds][2]), (True, "h"))
+    wanted("who waits", (told[waits][0], told[waits][2]), (0, "w"))
+    wanted("who does neither", (told[own], told[its][2]), ((0, 0, ""), ""))
+    wanted("the hold's end", holder.ask("COMMIT").split()[0], "COMMITTED")
+    wanted("who waited goes on", waiting.reply().split()[0], "BEGUN")
+    told = served(asking)
+    wanted("nobody holds or waits", [row[2] for row in told.values()], [""] * 4)
+    wanted("an end to the silent one", asking.ask(f"END {its}"), "OK")
+    wanted("who is left", sorted(served(asking)), sorted([own, holds, waits]))
+    for client in (holder, waiting):
+        client.quit()
+    wanted("nobody else", list(served(asking)), [own])
+    wanted("other words", asking.ask_all(["WHO all", "WHO ALL ALL", "WHO 1", "WHO "]), ["ERR SYNTAX"] * 4)
     asking.quit()
     stopped(server)
 
@@ -224,6 +274,7 @@ def many() -> None:
     clients = [Client(server.port) for _ in range(64)]
     begun: List[int] = [int(client.ask("BEGIN").split()[1]) for client in clients]
     asking = Client(server.port)
+    wanted("all that are served", sorted(tx for tx, _, _ in served(asking).values()), [0, *sorted(begun)])
     active = who(asking)
     wanted("all of them", sorted(tx for tx, _ in active.values()), sorted(begun))
     wanted("their ends", {asking.ask(f"END {number}") for number in active}, {"OK"})
@@ -238,6 +289,7 @@ def in_python() -> None:
     server = staying()
     with tiuvrokk.connect(port=server.port) as one, tiuvrokk.connect(port=server.port) as other:
         wanted("nobody", one.who(), [])
+        wanted("all are served", [it[1:] for it in one.sessions()], [(None, 0, False, False)] * 2)
         tx = other.transaction()
         tx["a"] = "1"
         (active,) = one.who()
@@ -266,13 +318,14 @@ def main() -> None:
     with tempfile.TemporaryDirectory() as folder:
         stopped_client(folder)
     entries()
+    all_sessions()
     ends()
     beside_a_hold()
     with tempfile.TemporaryDirectory() as folder:
         nothing_behind_its_end(folder)
     many()
     in_python()
-    print("ending: who has a transaction active, and an end to a stopped one, to oneself and beside a hold")
+    print("ending: who has a transaction active, who is served, holds and waits, and an end to a stopped one, to oneself and beside a hold")
 
 
 if __name__ == "__main__":

@@ -407,6 +407,15 @@ def odd_answers() -> None:
     odd = Odd({**STILL, b"WHO": b"WHO 2 0:7:0 18446744073709551615:8:90"})
     with tiuvrokk.connect(port=odd.port) as client:
         wanted("who has a transaction", client.who(), [(0, 7, 0), (2**64 - 1, 8, 90)])
+    for answer in (b"WHO 1 1:1:1:x", b"WHO 1 1:1:1:", b"WHO 1 1:1:1:h:w", b"WHO 2 1:1:1:h", b"WHO 1 1:1:1  ", b"ERR SYNTAX"):
+        odd = Odd({**STILL, b"WHO": answer})
+        with tiuvrokk.connect(port=odd.port) as client:
+            raised(tiuvrokk.Refused, client.sessions, f"WHO ALL answered {answer!r}")
+    odd = Odd({**STILL, b"WHO": b"WHO 3 0:7:0:h 4:0:5:w 18446744073709551615:8:90"})
+    with tiuvrokk.connect(port=odd.port) as client:
+        told = [(0, 7, 0, True, False), (4, None, 5, False, True), (2**64 - 1, 8, 90, False, False)]
+        wanted("who is served", client.sessions(), told)
+        raised(tiuvrokk.Refused, client.who, "WHO tells no marks")
 
 
 def full_sessions() -> None:

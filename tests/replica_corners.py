@@ -103,6 +103,7 @@ def endings(cluster: Cluster) -> None:
     wanted("nobody", one.ask("WHO", "END 99", "END x", f"END {2**64}"), ["WHO 0", "ERR SESSION", "ERR SYNTAX", "ERR RANGE"])
     two.ask("BEGIN", "INS e1 1")
     wanted("one", one.ask("WHO"), [f"WHO 1 {second}:1:0"])
+    wanted("all", {f"{first}:0:0", f"{second}:1:0"} <= set(one.ask("WHO ALL")[0].split()[2:]), True)
     wanted("beside it", one.ask("BEGIN", "INS e2 1", "WHO", "END 99")[2:], [f"WHO 2 {first}:1:0 {second}:1:0", "ERR SESSION"])
     wanted("its end", one.ask(f"END {second}", "WHO", f"END {second}"), ["OK", f"WHO 1 {first}:1:0", "ERR SESSION"])
     wanted("its connection", two.file.readline(), b"")

@@ -34,7 +34,7 @@ ImportError.
 from ._client import Client, RemoteTransaction, connect
 from ._library import upkeep
 from ._store import Figures, Store, Transaction
-from ._wire import Active
+from ._wire import Active, Served
 from .errors import (
     MAX_KEY, MAX_LIMIT, MAX_VALUE, Absent, Bad, BadLine, Busy, Closed, Conflict, Disconnected, Error, Exists, Forked, Held, Lapsed,
     NoMark, NoTransaction, OutOfMemory, Refused, Status, TooMany, Twice, Unknown, Unreachable, WrongThread,
@@ -46,7 +46,7 @@ NotRising = Twice
 __version__ = "1.1.0"
 
 __all__ = [
-    "MAX_KEY", "MAX_VALUE", "MAX_LIMIT", "Store", "Transaction", "Figures", "connect", "Client", "RemoteTransaction", "Active", "upkeep", "Status",
+    "MAX_KEY", "MAX_VALUE", "MAX_LIMIT", "Store", "Transaction", "Figures", "connect", "Client", "RemoteTransaction", "Active", "Served", "upkeep", "Status",
     "Error", "Absent", "Exists", "Busy", "NoTransaction", "NoMark", "TooMany", "Twice", "Bad", "BadLine", "Closed",
     "OutOfMemory", "Refused", "Conflict", "Unreachable", "Unknown", "Held", "Lapsed", "Disconnected", "Forked", "WrongThread",
 ]

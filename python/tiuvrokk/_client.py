@@ -21,7 +21,7 @@ from ._records import GREATEST, Record, Records, Text, bytes_of, double_line, fi
 from ._stream import Path, Place, Port, places_of
 from ._texts import EscapedTexts, Texts, below_key
 from ._tries import MAX_TRIES, Tries, hold
-from ._wire import LAPSED, Active, Wire, actives_of, number_of, refusal, rows_of
+from ._wire import LAPSED, Active, Served, Wire, actives_of, number_of, refusal, rows_of, served_of
 from .errors import MAX_LIMIT, Absent, Closed, Conflict, Error, Exists, NoTransaction, OutOfMemory, Refused, Twice
 from .errors import Unknown, Unreachable, WrongThread, bad_limit, bad_range
 
@@ -159,6 +159,12 @@ class Client(Runner["RemoteTransaction"]):
         """The sessions of the server, or of the replica, that have a transaction active: whose number `Busy.holder` is, and how long
         no line came of it."""
         found: list[Active] = self._asked(b"WHO", actives_of)
+        return found
+
+    def sessions(self) -> list[Served]:
+        """All sessions that the server, or the replica, serves, this client's too: which transaction each has, how long no line
+        came of it, and whether it holds or waits. A server that knows no such line raises `Refused`."""
+        found: list[Served] = self._asked(b"WHO ALL", served_of)
         return found
 
     def end(self, session: int) -> bool:

@@ -21,6 +21,7 @@ _REFUSALS: dict[bytes, type[Refused]] = {
 }  # fmt: skip
 _NUMBER = re.compile(rb"[0-9]{1,20}")
 _ACTIVE = re.compile(rb"([0-9]{1,20}):([0-9]{1,20}):([0-9]{1,20})")
+_SERVED = re.compile(_ACTIVE.pattern + rb"(:[hw])?")
 
 
 class Active(NamedTuple):
@@ -32,6 +33,21 @@ class Active(NamedTuple):
     """The number by which `Busy.holder` names the transaction."""
     seconds: int
     """How many whole seconds ago its last line came."""
+
+
+class Served(NamedTuple):
+    """A session that is served, by `Client.sessions`."""
+
+    session: int
+    """Its number, for `Client.end`."""
+    transaction: Optional[int]
+    """The number of its transaction, where one is active."""
+    seconds: int
+    """How many whole seconds ago its last line came."""
+    holds: bool
+    """Whether it has the store to itself, by `Client.hold`."""
+    waits: bool
+    """Whether it waits, to hold or while another holds."""
 
 
 def refusal(answer: bytes, line: bytes = b"", transaction: int = 0, texts: Texts = Texts()) -> Error:
@@ -98,13 +114,25 @@ def number_of(answer: bytes, word: bytes) -> Optional[int]:
     return int(rest) if rest is not None and _NUMBER.fullmatch(rest) else None
 
 
+def _told_of(answer: bytes, form: re.Pattern[bytes]) -> Optional[list[re.Match[bytes]]]:
+    """What an answer to WHO tells of each session, where it is one and each has the form."""
+    word, *rest = answer.split(b" ")
+    found = [it for it in map(form.fullmatch, rest[1:]) if it]
+    return found if word == b"WHO" and rest[:1] == [b"%d" % len(found)] and len(rest) == len(found) + 1 else None
+
+
 def actives_of(answer: bytes) -> Optional[list[Active]]:
     """What an answer to WHO tells, where it is one."""
-    word, *rest = answer.split(b" ")
-    found = [_ACTIVE.fullmatch(text) for text in rest[1:]]
-    if word != b"WHO" or rest[:1] != [b"%d" % len(found)] or None in found:
+    found = _told_of(answer, _ACTIVE)
+    return None if found is None else [Active(*map(int, it.groups())) for it in found]
+
+
+def served_of(answer: bytes) -> Optional[list[Served]]:
+    """What an answer to WHO ALL tells, where it is one."""
+    found = _told_of(answer, _SERVED)
+    if found is None:
         return None
-    return [Active(*map(int, it.groups())) for it in found if it]
+    return [Served(int(it[1]), int(it[2]) or None, int(it[3]), it[4] == b":h", it[4] == b":w") for it in found]
 
 
 def rows_of(answer: bytes, most: int) -> Optional[list[tuple[bytes, bytes]]]:

@@ -32,7 +32,7 @@ AROUND = len(b"BEGIN\nCOMMIT\n")
 UNREAD, MOST_FLYING = 1 << 16, 100
 ENDS = (b"BEGIN", b"COMMIT")
 # Lines that end a transaction, or that don't belong to it.
-APART = (b"QUIT", b"ABORT", b"SEEN", b"WHO")
+APART = (b"QUIT", b"ABORT", b"SEEN", b"WHO", b"WHO ALL")
 MAINTENANCE = (b"MERGE ", b"CLEAN ", b"END ")
 # (no such line goes to the store, whose own session it would end)
 END = re.compile(rb"END (0|[1-9][0-9]{0,19})")
@@ -244,8 +244,8 @@ class Session:
             self.out.append(b"REPLICA")
         elif line == b"SEEN":
             self.out.append(b"SEEN %d %d" % (self.number, self.replica.commits))
-        elif line == b"WHO":
-            self.out.append(self.who())
+        elif line in (b"WHO", b"WHO ALL"):
+            self.out.append(self.who(line == b"WHO ALL"))
         elif END.fullmatch(line) and int(line[4:]) < 1 << 64:
             return self.end(int(line[4:]))
         else:
@@ -253,11 +253,12 @@ class Session:
             self.out.append(self.replica.store.answer_outside(line))
         return True
 
-    def who(self) -> bytes:
-        """The replica's sessions that have a transaction active, each with that and the seconds since something came."""
+    def who(self, tells_all: bool) -> bytes:
+        """The replica's sessions that have a transaction active, or all, each with that and the seconds since something came. None
+        holds or waits."""
         now = time.monotonic()
-        active = [one for one in self.sessions.values() if one.transaction is not None]
-        told = [b"%d:%d:%d" % (one.number, one.begun, int(now - one.heard)) for one in active]
+        asked = [one for one in self.sessions.values() if tells_all or one.transaction is not None]
+        told = [b"%d:%d:%d" % (one.number, one.begun if one.transaction is not None else 0, int(now - one.heard)) for one in asked]
         return b" ".join([b"WHO %d" % len(told), *told])
 
     def end(self, number: int) -> bool:

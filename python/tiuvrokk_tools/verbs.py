@@ -29,7 +29,7 @@ class Verb(NamedTuple):
 
     @property
     def word(self) -> str:
-        return self.lines.partition(" ")[0]
+        return re.split("[ ,]", self.lines, 1)[0]
 
     @property
     def takes_staged(self) -> bool:
@@ -89,9 +89,10 @@ TABLE: List[Verb] = [
         Kind.APART,
     ),
     Verb(
-        "WHO",
-        "the sessions that have a transaction active",
-        "WHO n s:t:q s:t:q .., n sessions, each with its number, its transaction's and the seconds since its last line",
+        "WHO, WHO ALL",
+        "the sessions that have a transaction active, or all",
+        "WHO n s:t:q s:t:q .., n sessions, each with its number, its transaction's (0: none) and the seconds since its last line; "
+        "of WHO ALL with :h after these where it holds, and :w where it waits",
         Kind.APART,
     ),
     Verb("END s", "the end of session s, as if its client were gone", "OK, or ERR SESSION where none has that number", Kind.APART),

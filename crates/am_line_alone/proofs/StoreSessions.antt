@@ -33,7 +33,7 @@ is_alone = record {
   };
   shows = λ old new session commits h. (h.0, h.1, ap alone_of h.2);
   holds = λ s millis answer h. h;
-  tells = λ s told h. h;
+  tells = λ s which told h. h;
   ends = λ s session answer h. h;
   lapses = λ h. h;
 }

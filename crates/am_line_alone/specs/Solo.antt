@@ -62,7 +62,7 @@ solo_meaning = record {
   steps = SoloSteps;
   shows = SoloShows;
   holds = λ s millis answer. AloneHolds answer;
-  tells = λ s told. AloneTells s.active told;
+  tells = λ s which told. AloneTells s.active which told;
   ends = λ s session answer. answer ≡ alone_end session;
   lapses = ⊥;
 }

@@ -6,8 +6,9 @@ ghost use Rattle.am_law_sound.specs.StoreState.{empty_state};
 ghost use Rattle.am_line_alone.specs.Solo.{solo_meaning};
 
 use am_index_btree::BTree;
-use am_line_dialogue::{ActiveSession, ActiveSessions, EndAnswer, HoldAnswer, active_behind};
+use am_line_dialogue::{EndAnswer, HoldAnswer, Standing, ToldSession, ToldSessions, active_behind};
 use am_line_session::Backend;
+use am_line_wire::WhichSessions;
 use am_record::{HashKey, NoMemory, Reply, Step};
 use am_store::Store;
 use std::alloc::Global;
@@ -73,17 +74,19 @@ impl Backend for SoloStore {
         &self,
         _rt: &W,
         alloc: Global,
+        which: WhichSessions,
         _held: &Option<()>,
-    ) -> Result<ActiveSessions, NoMemory> {
+    ) -> Result<ToldSessions, NoMemory> {
         let mut sessions = Vec::new(alloc);
-        if let Some(tx) = self.active {
-            sessions.push(ActiveSession {
+        if which == WhichSessions::All || self.active.is_some() {
+            sessions.push(ToldSession {
                 session: 0,
-                tx,
+                tx: self.active,
                 seconds: 0,
+                standing: Standing::Free,
             })?;
         }
-        Ok(ActiveSessions::new(sessions))
+        Ok(ToldSessions::new(sessions))
     }
 
     fn end<W: Wait>(&self, _rt: &W, session: u64, _held: &Option<()>) -> EndAnswer {

@@ -3,6 +3,7 @@ use Rattle.std.proofs.Common.{◌≡◌, inl, inr, cond, ℕ, List, [], ◌∷�
 use Rattle.std.proofs.Common.{Result, Ok, Err, refl, sym, ap, subst, append_assoc}
 use Rattle.std.specs.Prelude.{codes, decimal, length}
 use Rattle.std.specs.List.{AllByRecursion}
+use Rattle.std.specs.Option.{unwrap_or}
 use Rattle.am_record.specs.Records.{Records}
 use Rattle.am_record.specs.declared.step.Op.{Op}
 use Rattle.am_record.specs.declared.step.Op.TheVariants as op
@@ -28,8 +29,11 @@ use Rattle.am_line_dialogue.specs.Actions.{may_wait, with_staged, staged_left, c
 use Rattle.am_line_dialogue.specs.Actions.{action_for}
 use Rattle.am_line_dialogue.specs.Actions.{no_room, staged_asked, session_behind_line, IsActionFor, is_hold_time}
 use Rattle.am_line_source.specs.Lines.{HasNoLf}
-use Rattle.am_line_dialogue.specs.Responses.{response_text, line, active_words, actives_words, who_response}
-use Rattle.am_line_dialogue.specs.declared.active_sessions.ActiveSession.{ActiveSession}
+use Rattle.am_line_dialogue.specs.Responses.{response_text, line, standing_mark, told_words, sessions_words}
+use Rattle.am_line_dialogue.specs.Responses.{who_response}
+use Rattle.am_line_dialogue.specs.declared.told_sessions.Standing.{Standing}
+use Rattle.am_line_dialogue.specs.declared.told_sessions.Standing.TheVariants.{Free, Holds, Waits}
+use Rattle.am_line_dialogue.specs.declared.told_sessions.ToldSession.{ToldSession}
 use Rattle.am_line_dialogue.specs.Exchanges.{Exchange}
 use Rattle.am_line_dialogue.specs.Backends.{BackendMeaning}
 use Rattle.am_line_dialogue.specs.Conversation.{SessionPoint, session_at, TakesStep, AnswersAction, AnswersLine}
@@ -109,29 +113,43 @@ then_free : (xs word : List ℕ) (n : ℕ) → HasNoLf xs → is_free word ≡ t
 then_free xs word n h free = HasNoLf-append (xs ++ word) (decimal n)
     (HasNoLf-append xs word h (HasNoLf-free word free)) (HasNoLf-decimal n)
 
-active_free : (active : ActiveSession) → HasNoLf (active_words active)
+mark_free : (standing : Standing) → HasNoLf (standing_mark standing)
 unfolding is_free
-active_free active = then_free (((codes " " ++ decimal active.session) ++ codes ":") ++ decimal active.tx) (codes ":")
-    active.seconds
-    (then_free (codes " " ++ decimal active.session) (codes ":") active.tx
-    (then_free [] (codes " ") active.session tt refl) refl)
-    refl
+mark_free Free = tt
+mark_free Holds = HasNoLf-free (codes ":h") refl
+mark_free Waits = HasNoLf-free (codes ":w") refl
 
-actives_free : (sessions : List ActiveSession) → HasNoLf (actives_words sessions)
-actives_free [] = tt
-actives_free (active ∷ sessions) = HasNoLf-append (active_words active) (actives_words sessions) (active_free active)
-    (actives_free sessions)
+module _ (told : ToldSession) where
+  abbrev told_tx : ℕ
+  told_tx = unwrap_or told.tx 0
 
-who_line : (sessions : List ActiveSession) → IsLine (Who sessions)
+  abbrev numbers : List ℕ
+  numbers = ((((codes " " ++ decimal told.session) ++ codes ":") ++ decimal told_tx) ++ codes ":") ++
+      decimal told.seconds
+
+  told_free : HasNoLf (told_words told)
+  unfolding is_free
+  told_free = HasNoLf-append numbers (standing_mark told.standing)
+      (then_free (((codes " " ++ decimal told.session) ++ codes ":") ++ decimal told_tx) (codes ":") told.seconds
+      (then_free (codes " " ++ decimal told.session) (codes ":") told_tx
+      (then_free [] (codes " ") told.session tt refl) refl) refl)
+      (mark_free told.standing)
+
+all_free : (sessions : List ToldSession) → HasNoLf (sessions_words sessions)
+all_free [] = tt
+all_free (told ∷ sessions) = HasNoLf-append (told_words told) (sessions_words sessions) (told_free told)
+    (all_free sessions)
+
+who_line : (sessions : List ToldSession) → IsLine (Who sessions)
 unfolding is_free
 who_line sessions = (
-  (codes "WHO " ++ decimal (length sessions)) ++ actives_words sessions,
-  HasNoLf-append (codes "WHO " ++ decimal (length sessions)) (actives_words sessions)
-      (then_free [] (codes "WHO ") (length sessions) tt refl) (actives_free sessions),
+  (codes "WHO " ++ decimal (length sessions)) ++ sessions_words sessions,
+  HasNoLf-append (codes "WHO " ++ decimal (length sessions)) (sessions_words sessions)
+      (then_free [] (codes "WHO ") (length sessions) tt refl) (all_free sessions),
   refl,
 )
 
-who_answered : {E : Type 0} (told : Result (List ActiveSession) E) → IsLine (who_response told)
+who_answered : {E : Type 0} (told : Result (List ToldSession) E) → IsLine (who_response told)
 who_answered (Ok sessions) = who_line sessions
 who_answered (Err refused) = fault_line fault.NoMemory
 
@@ -184,7 +202,7 @@ IsVisibleDue (Answer response) = IsLine response
 IsVisibleDue (Take what) = IsVisibleStep what
 IsVisibleDue TellSeen = Unit {0}
 IsVisibleDue (AskHold millis) = Unit {0}
-IsVisibleDue TellWho = Unit {0}
+IsVisibleDue (TellWho which) = Unit {0}
 IsVisibleDue (AskEnd session) = Unit {0}
 
 hold_visible : (millis : ℕ) (b : Bool) → IsVisibleDue (cond b (AskHold millis) (Answer (Hold OutOfBounds)))
@@ -217,7 +235,7 @@ request_visible None staged request.Seen v h = tt
 request_visible None staged (request.Hold millis) v h = hold_visible millis (is_hold_time millis)
 request_visible (Some tx) staged (request.Hold millis) v h = active_line
 request_visible (Some tx) staged request.Quit v h = none_line
-request_visible None staged request.Who v h = tt
+request_visible None staged (request.Who which) v h = tt
 request_visible None staged (request.End session) v h = tt
 request_visible None staged asked v h = none_line
 request_visible (Some tx) staged asked v h = tt
@@ -326,7 +344,7 @@ module _ {B : Type 0} (means : BackendMeaning B) where
     subst IsLine (sym a.1) (hold_line a.0),
     rests old new events rest a.2.1.0 (ap (λ (at : SessionPoint B). at.1) a.2.1.1) v,
   )
-  acts old new TellWho response events rest is a v = (
+  acts old new (TellWho which) response events rest is a v = (
     subst IsLine (sym a.1) (who_answered a.0),
     rests old new events rest a.2.1.0 (ap (λ (at : SessionPoint B). at.1) a.2.1.1) v,
   )

@@ -17,7 +17,8 @@ use Rattle.am_line_dialogue.specs.declared.action.Action.TheVariants.{Answer, Ta
 use Rattle.am_line_dialogue.specs.declared.response.Response.{Response}
 use Rattle.am_line_dialogue.specs.declared.response.HoldAnswer.{HoldAnswer}
 use Rattle.am_line_dialogue.specs.declared.response.EndAnswer.{EndAnswer}
-use Rattle.am_line_dialogue.specs.declared.active_sessions.ActiveSession.{ActiveSession}
+use Rattle.am_line_dialogue.specs.declared.told_sessions.ToldSession.{ToldSession}
+use Rattle.am_line_wire.specs.declared.request.WhichSessions.{WhichSessions}
 use Rattle.am_record.specs.declared.memory.NoMemory.{NoMemory}
 
 -- ---- a map of backends that takes steps to steps takes conversations to conversations
@@ -30,7 +31,8 @@ pub record TakesSteps {B C : Type 0} (from : BackendMeaning B) (to : BackendMean
       to.shows (image old) session commits (image new)
   pub holds : (b : B) (millis : ℕ) (answer : HoldAnswer) → from.holds b millis answer →
       to.holds (image b) millis answer
-  pub tells : (b : B) (told : Result (List ActiveSession) NoMemory) → from.tells b told → to.tells (image b) told
+  pub tells : (b : B) (which : WhichSessions) (told : Result (List ToldSession) NoMemory) → from.tells b which told →
+      to.tells (image b) which told
   pub ends : (b : B) (session : ℕ) (answer : EndAnswer) → from.ends b session answer →
       to.ends (image b) session answer
   pub lapses : from.lapses → to.lapses
@@ -59,10 +61,10 @@ module _ {B C : Type 0} (from : BackendMeaning B) (to : BackendMeaning C) (image
     a.1,
     (takes.holds old.0 millis a.0 a.2.0, (a.2.1.0, ap point a.2.1.1)),
   )
-  action_taken old new TellWho response events a = (
+  action_taken old new (TellWho which) response events a = (
     a.0,
     a.1,
-    (takes.tells old.0 a.0 a.2.0, (a.2.1.0, ap point a.2.1.1)),
+    (takes.tells old.0 which a.0 a.2.0, (a.2.1.0, ap point a.2.1.1)),
   )
   action_taken old new (AskEnd session) response events a = (
     a.0,
@@ -221,7 +223,7 @@ module _ {B : Type 0} (means : BackendMeaning B) (Goes : B → Trace → B → T
       (holds.shows old.0 new.0 a.0 a.1 a.3.0)
   action_goes old new (AskHold millis) response events a = still old.0 new.0 events a.2.1.0
       (ap (λ (at : SessionPoint B). at.0) a.2.1.1)
-  action_goes old new TellWho response events a = still old.0 new.0 events a.2.1.0
+  action_goes old new (TellWho which) response events a = still old.0 new.0 events a.2.1.0
       (ap (λ (at : SessionPoint B). at.0) a.2.1.1)
   action_goes old new (AskEnd session) response events a = still old.0 new.0 events a.2.1.0
       (ap (λ (at : SessionPoint B). at.0) a.2.1.1)

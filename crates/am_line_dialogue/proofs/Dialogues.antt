@@ -24,12 +24,13 @@ use Rattle.am_line_dialogue.specs.Actions.{may_wait, with_staged, staged_left, s
 use Rattle.am_line_dialogue.specs.Actions.{session_behind_line, no_room, IsActionFor, is_hold_time}
 use Rattle.am_line_dialogue.specs.Exchanges.{Exchange}
 use Rattle.am_line_dialogue.specs.Conversation.{SessionPoint, session_at, Stays, TakesStep, AnswersAction, AnswersLine}
-use Rattle.am_line_dialogue.specs.Alone.{Alone, alone_after, alone_meaning, alone_actives, alone_end}
+use Rattle.am_line_dialogue.specs.Alone.{Alone, alone_after, alone_meaning, alone_told, alone_end}
 use Rattle.am_line_dialogue.specs.Say as say
 use Rattle.am_line_dialogue.specs.Say.{refusal_due, reply_due, refused_or, state_did, wants_memory, response_due}
 use Rattle.am_line_dialogue.specs.Say.{state_after_line, state_refused, is_load_line, IsSaid, SaysFrom}
 use Rattle.am_line_wire.specs.declared.request.Request.{Request}
 use Rattle.am_line_wire.specs.declared.request.Request.TheVariants as request
+use Rattle.am_line_wire.specs.declared.request.WhichSessions.{WhichSessions}
 use Rattle.am_line_text.specs.declared.fault.LineFault.TheVariants as fault
 use Rattle.am_line_dialogue.specs.declared.lines.ParsedLine.{ParsedLine}
 use Rattle.am_line_dialogue.specs.declared.lines.ParsedLine.TheVariants as said
@@ -114,17 +115,18 @@ holds_alone w millis true says same r own rest at' a = at_once w w.staged (said.
 holds_alone w millis false says same r own rest at' a = at_once w w.staged (said.Asked (request.Hold millis))
     (Hold OutOfBounds) refl says same r own rest at' a
 
--- who has a transaction active, where that is the session itself or nobody; memory may be refused
-tells_alone : (w : Where) → response_due (state_at w) (said.Asked request.Who) ≡
-    Some (Who (alone_actives (alone_at w).active)) →
-    state_at w ≡ state_after_line (state_at w) (said.Asked request.Who) →
+-- which sessions there are, where the session is alone; memory may be refused
+tells_alone : (w : Where) (which : WhichSessions) → response_due (state_at w) (said.Asked (request.Who which)) ≡
+    Some (Who (alone_told which (alone_at w).active)) →
+    state_at w ≡ state_after_line (state_at w) (said.Asked (request.Who which)) →
     (r : Response) (own rest : Trace) (at' : SessionPoint Alone) →
-    AnswersAction alone_meaning (point_at w) TellWho r own at' → Runs 65535 (machine_at w) (own ++ rest) →
-    Leads w (said.Asked request.Who) r rest at'
-tells_alone w says same r own rest at' (Ok told, is, (tells, stays)) = at_once w w.staged (said.Asked request.Who)
-    (Who (alone_actives (alone_at w).active)) refl says same r own rest at' (is ∙ ap Who tells, stays)
-tells_alone w says same r own rest at' (Err refused, is, (tells, stays)) = refused_line w (said.Asked request.Who) r own
-    rest at' (is, stays)
+    AnswersAction alone_meaning (point_at w) (TellWho which) r own at' → Runs 65535 (machine_at w) (own ++ rest) →
+    Leads w (said.Asked (request.Who which)) r rest at'
+tells_alone w which says same r own rest at' (Ok told, is, (tells, stays)) =
+    at_once w w.staged (said.Asked (request.Who which)) (Who (alone_told which (alone_at w).active)) refl says same r
+    own rest at' (is ∙ ap Who tells, stays)
+tells_alone w which says same r own rest at' (Err refused, is, (tells, stays)) =
+    refused_line w (said.Asked (request.Who which)) r own rest at' (is, stays)
 
 -- who would end a session, and is alone
 ends_alone : (w : Where) (number : ℕ) → response_due (state_at w) (said.Asked (request.End number)) ≡
@@ -449,7 +451,7 @@ module _ (begun commits runs : ℕ) (m : PlainMap) (staged : Records) where
       (cleans free range limit)
   leads_free request.Seen = shown free refl refl
   leads_free (request.Hold millis) = holds_alone free millis (is_hold_time millis) refl refl
-  leads_free request.Who = tells_alone free refl refl
+  leads_free (request.Who which) = tells_alone free which refl refl
   leads_free (request.End number) = ends_alone free number refl refl
   leads_free asked = at_once free staged (said.Asked asked) response.NoTransaction refl refl refl
 
@@ -482,7 +484,7 @@ module _ (begun commits runs : ℕ) (m : PlainMap) (body : List Answered) where
     leads_busy request.Seen = shown held refl refl
     leads_busy (request.Hold millis) = at_once held staged (said.Asked (request.Hold millis)) response.Active refl refl
         refl
-    leads_busy request.Who = tells_alone held refl refl
+    leads_busy (request.Who which) = tells_alone held which refl refl
     leads_busy (request.End number) = ends_alone held number refl refl
     leads_busy request.Quit = at_once held staged (said.Asked request.Quit) response.NoTransaction refl refl refl
 

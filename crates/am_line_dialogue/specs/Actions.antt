@@ -83,7 +83,7 @@ request_action active staged (Clean range limit) = Take (step.Clean range limit)
 request_action active staged Seen = TellSeen
 request_action None staged (Hold millis) = hold_action millis
 request_action (Some tx) staged (Hold millis) = Answer response.Active
-request_action active staged Who = TellWho
+request_action active staged (Who which) = TellWho which
 request_action active staged (End session) = AskEnd session
 request_action active staged Quit = Answer response.NoTransaction
 

@@ -1,5 +1,6 @@
 -- A session alone: its backend may give any reply.
-use Rattle.std.specs.Prelude.{◌≡◌, ℕ, ◌+◌, ◌==◌, List, [], ◌∷◌, Option, Some, None, IsSome, Result, Ok, Err, cond}
+use Rattle.std.specs.Prelude.{◌≡◌, ◌<◌, ℕ, ◌+◌, ◌==◌, List, [], ◌∷◌, length, Option, Some, None, Result, Ok, Err}
+use Rattle.std.specs.Prelude.{cond}
 use Rattle.am_record.specs.declared.memory.NoMemory.{NoMemory}
 use Rattle.am_record.specs.Sessions.{active_after}
 use Rattle.am_record.specs.declared.step.Step.{Step}
@@ -12,7 +13,10 @@ use Rattle.am_line_dialogue.specs.declared.response.HoldAnswer.{HoldAnswer}
 use Rattle.am_line_dialogue.specs.declared.response.HoldAnswer.TheVariants.{Granted}
 use Rattle.am_line_dialogue.specs.declared.response.EndAnswer.{EndAnswer}
 use Rattle.am_line_dialogue.specs.declared.response.EndAnswer.TheVariants.{EndsItself, NoSession}
-use Rattle.am_line_dialogue.specs.declared.active_sessions.ActiveSession.{ActiveSession}
+use Rattle.am_line_wire.specs.declared.request.WhichSessions.{WhichSessions}
+use Rattle.am_line_wire.specs.declared.request.WhichSessions.TheVariants.{Active, All}
+use Rattle.am_line_dialogue.specs.declared.told_sessions.Standing.TheVariants.{Free}
+use Rattle.am_line_dialogue.specs.declared.told_sessions.ToldSession.{ToldSession}
 use Rattle.am_line_dialogue.specs.Backends.{BackendMeaning}
 use Rattle.am_line_dialogue.specs.Conversation.{AnswersAll}
 
@@ -43,15 +47,19 @@ AloneShows old session commits new = (session ≡ 0) × (commits ≡ old.commits
 abbrev pub AloneHolds : HoldAnswer → Type 0
 AloneHolds answer = answer ≡ Granted
 
--- its own transaction is the only one, and the line that asks is its last
-abbrev pub alone_actives : Option ℕ → List ActiveSession
-alone_actives None = []
-alone_actives (Some tx) = record { session = 0; tx = tx; seconds = 0 } ∷ []
+-- it is the only one, the line that asks is its last, and it neither holds nor waits
+abbrev pub alone_one : Option ℕ → ToldSession
+alone_one active = record { session = 0; tx = active; seconds = 0; standing = Free }
+
+abbrev pub alone_told : WhichSessions → Option ℕ → List ToldSession
+alone_told All active = alone_one active ∷ []
+alone_told Active None = []
+alone_told Active (Some tx) = alone_one (Some tx) ∷ []
 
 -- memory may be refused where there is something to tell
-abbrev pub AloneTells : Option ℕ → Result (List ActiveSession) NoMemory → Type 0
-AloneTells active (Ok told) = told ≡ alone_actives active
-AloneTells active (Err refused) = IsSome active
+abbrev pub AloneTells : Option ℕ → WhichSessions → Result (List ToldSession) NoMemory → Type 0
+AloneTells active which (Ok told) = told ≡ alone_told which active
+AloneTells active which (Err refused) = 0 < length (alone_told which active)
 
 -- its number is 0, and nobody else is there
 abbrev pub alone_end : ℕ → EndAnswer
@@ -63,7 +71,7 @@ alone_meaning = record {
   steps = λ old step reply new. new ≡ alone_after old step reply;
   shows = AloneShows;
   holds = λ a millis answer. AloneHolds answer;
-  tells = λ a told. AloneTells a.active told;
+  tells = λ a which told. AloneTells a.active which told;
   ends = λ a session answer. answer ≡ alone_end session;
   lapses = ⊥;
 }

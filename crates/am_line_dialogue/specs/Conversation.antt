@@ -20,7 +20,8 @@ use Rattle.am_line_dialogue.specs.declared.response.Response.{Response}
 use Rattle.am_line_dialogue.specs.declared.response.Response.TheVariants.{Replied, Seen, Hold, End, Lapsed}
 use Rattle.am_line_dialogue.specs.declared.response.HoldAnswer.{HoldAnswer}
 use Rattle.am_line_dialogue.specs.declared.response.EndAnswer.{EndAnswer}
-use Rattle.am_line_dialogue.specs.declared.active_sessions.ActiveSession.{ActiveSession}
+use Rattle.am_line_dialogue.specs.declared.told_sessions.ToldSession.{ToldSession}
+use Rattle.am_line_wire.specs.declared.request.WhichSessions.{WhichSessions}
 use Rattle.am_line_dialogue.specs.Responses.{who_response}
 
 abbrev pub SessionPoint : Type 0 → Type 0
@@ -47,9 +48,10 @@ module _ {B : Type 0} (means : BackendMeaning B) where
   abbrev pub AnswersHold : SessionPoint B → ℕ → HoldAnswer → Trace → SessionPoint B → Type 0
   AnswersHold old millis answer events new = means.holds old.0 millis answer × Stays old events new
 
-  -- the backend told which sessions have a transaction active
-  abbrev pub TellsWho : SessionPoint B → Result (List ActiveSession) NoMemory → Trace → SessionPoint B → Type 0
-  TellsWho old told events new = means.tells old.0 told × Stays old events new
+  -- the backend told which sessions there are, of these
+  abbrev pub TellsWho : SessionPoint B → WhichSessions → Result (List ToldSession) NoMemory → Trace →
+      SessionPoint B → Type 0
+  TellsWho old which told events new = means.tells old.0 which told × Stays old events new
 
   -- the backend answered who would end this session
   abbrev pub AnswersEnd : SessionPoint B → ℕ → EndAnswer → Trace → SessionPoint B → Type 0
@@ -64,8 +66,8 @@ module _ {B : Type 0} (means : BackendMeaning B) where
       ShowsSeen old session commits events new
   AnswersAction old (AskHold millis) response events new = (answer : HoldAnswer) × (response ≡ Hold answer) ×
       AnswersHold old millis answer events new
-  AnswersAction old TellWho response events new = (told : Result (List ActiveSession) NoMemory) ×
-      (response ≡ who_response told) × TellsWho old told events new
+  AnswersAction old (TellWho which) response events new = (told : Result (List ToldSession) NoMemory) ×
+      (response ≡ who_response told) × TellsWho old which told events new
   AnswersAction old (AskEnd session) response events new = (answer : EndAnswer) × (response ≡ End answer) ×
       AnswersEnd old session answer events new
 

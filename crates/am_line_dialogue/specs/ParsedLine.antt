@@ -42,6 +42,6 @@ is_stage _ = false
 -- whether it is answered while another session holds
 abbrev pub is_urgent : ParsedLine → Bool
 is_urgent (Asked (Hold millis)) = true
-is_urgent (Asked Who) = true
+is_urgent (Asked (Who which)) = true
 is_urgent (Asked (End session)) = true
 is_urgent _ = false

@@ -1,5 +1,6 @@
 -- The texts that a session writes.
 use Rattle.std.specs.Prelude.{ℕ, List, [], ◌∷◌, ◌++◌, length, Bool, true, false, cond, codes, decimal, Result, Ok, Err}
+use Rattle.std.specs.Option.{unwrap_or}
 use Rattle.am_line_wire.specs.Replies.{text_of}
 use Rattle.am_line_text.specs.declared.fault.LineFault.{LineFault}
 use Rattle.am_line_text.specs.declared.fault.LineFault.TheVariants.{Syntax, Range, NoMemory}
@@ -12,7 +13,9 @@ use Rattle.am_line_dialogue.specs.declared.response.HoldAnswer.{HoldAnswer}
 use Rattle.am_line_dialogue.specs.declared.response.HoldAnswer.TheVariants.{Granted, OutOfBounds, HeldBy}
 use Rattle.am_line_dialogue.specs.declared.response.EndAnswer.{EndAnswer}
 use Rattle.am_line_dialogue.specs.declared.response.EndAnswer.TheVariants.{Ends, EndsItself, NoSession}
-use Rattle.am_line_dialogue.specs.declared.active_sessions.ActiveSession.{ActiveSession}
+use Rattle.am_line_dialogue.specs.declared.told_sessions.Standing.{Standing}
+use Rattle.am_line_dialogue.specs.declared.told_sessions.Standing.TheVariants.{Free, Holds, Waits}
+use Rattle.am_line_dialogue.specs.declared.told_sessions.ToldSession.{ToldSession}
 
 -- the text as a line
 abbrev pub line : List ℕ → List ℕ
@@ -33,21 +36,27 @@ hold_text Granted = line (codes "OK")
 hold_text OutOfBounds = line (codes "ERR LIMIT")
 hold_text (HeldBy session) = line (codes "ERR HELD " ++ decimal session)
 
--- a session with an active transaction, with a space before it, as s:t:q
-abbrev pub active_words : ActiveSession → List ℕ
-active_words active = ((((codes " " ++ decimal active.session) ++ codes ":") ++ decimal active.tx) ++ codes ":") ++
-    decimal active.seconds
+-- what follows the seconds of a session: whether it holds, or waits
+abbrev pub standing_mark : Standing → List ℕ
+standing_mark Free = []
+standing_mark Holds = codes ":h"
+standing_mark Waits = codes ":w"
 
-abbrev pub actives_words : List ActiveSession → List ℕ
-actives_words [] = []
-actives_words (active ∷ sessions) = active_words active ++ actives_words sessions
+-- a session, with a space before it, as s:t:q, s:t:q:h or s:t:q:w; t is 0 where it has no transaction
+abbrev pub told_words : ToldSession → List ℕ
+told_words told = (((((codes " " ++ decimal told.session) ++ codes ":") ++ decimal (unwrap_or told.tx 0)) ++ codes ":")
+    ++ decimal told.seconds) ++ standing_mark told.standing
+
+abbrev pub sessions_words : List ToldSession → List ℕ
+sessions_words [] = []
+sessions_words (told ∷ sessions) = told_words told ++ sessions_words sessions
 
 -- how many there are, and each of them
-abbrev pub who_text : List ActiveSession → List ℕ
-who_text sessions = line ((codes "WHO " ++ decimal (length sessions)) ++ actives_words sessions)
+abbrev pub who_text : List ToldSession → List ℕ
+who_text sessions = line ((codes "WHO " ++ decimal (length sessions)) ++ sessions_words sessions)
 
 -- what WHO is answered, for which memory may be refused
-abbrev pub who_response : {E : Type 0} → Result (List ActiveSession) E → Response
+abbrev pub who_response : {E : Type 0} → Result (List ToldSession) E → Response
 who_response (Ok sessions) = Who sessions
 who_response (Err refused) = Faulty NoMemory
 

@@ -17,7 +17,7 @@ use Rattle.am_record.specs.Refusals.{refusal_before_lock, is_one_too_many, lock_
 use Rattle.am_line_dialogue.specs.ParsedLine.{Line, parsed, is_upkeep, is_stage}
 use Rattle.am_line_dialogue.specs.Actions.{with_staged, staged_left, stage_response, may_wait, is_hold_time}
 use Rattle.am_line_dialogue.specs.Exchanges.{Exchange}
-use Rattle.am_line_dialogue.specs.Alone.{alone_actives, alone_end}
+use Rattle.am_line_dialogue.specs.Alone.{alone_told, alone_end}
 use Rattle.am_line_wire.specs.declared.request.Request.{Request}
 use Rattle.am_line_wire.specs.declared.request.Request.TheVariants as request
 use Rattle.am_line_text.specs.declared.fault.LineFault.TheVariants as fault
@@ -78,8 +78,8 @@ answer_to s (Some ops) request.Abort = Some (Replied Aborted)
 answer_to s own request.Seen = Some (Seen 0 s.commits)
 answer_to s None (request.Hold millis) = Some (hold_response millis)
 answer_to s (Some ops) (request.Hold millis) = Some Active
-answer_to s None request.Who = Some (Who (alone_actives None))
-answer_to s (Some ops) request.Who = Some (Who (alone_actives (Some s.begun)))
+answer_to s None (request.Who which) = Some (Who (alone_told which None))
+answer_to s (Some ops) (request.Who which) = Some (Who (alone_told which (Some s.begun)))
 answer_to s own (request.End session) = Some (End (alone_end session))
 answer_to s own (request.Merge limit) = None
 answer_to s own (request.Clean range limit) = None

@@ -1,6 +1,7 @@
 //! What is due for a line.
 
 use crate::response::Response;
+use am_line_wire::WhichSessions;
 use am_record::Step;
 
 /// What is due for a line.
@@ -14,8 +15,8 @@ pub enum Action {
     TellSeen,
     /// What the backend answers who would hold it for so many milliseconds.
     AskHold(u64),
-    /// Which sessions have a transaction active, as the backend tells.
-    TellWho,
+    /// Which sessions there are, of these, as the backend tells.
+    TellWho(WhichSessions),
     /// What the backend answers who would end the session of this number.
     AskEnd(u64),
 }

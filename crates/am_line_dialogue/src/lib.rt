@@ -6,15 +6,15 @@
 #![tactic(auto)]
 
 mod action;
-mod active_sessions;
 mod laws;
 mod lines;
 mod response;
 mod session;
+mod told_sessions;
 
 pub use action::Action;
-pub use active_sessions::{ActiveSession, ActiveSessions};
 pub use laws::{answers_are_lines, found_memory_is_said, sound_dialogues_say, staging_is_loading};
 pub use lines::{ParsedLine, parse};
 pub use response::{EndAnswer, HoldAnswer, Response, put_response};
 pub use session::{Session, active_behind};
+pub use told_sessions::{Standing, ToldSession, ToldSessions};

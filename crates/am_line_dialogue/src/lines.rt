@@ -45,7 +45,7 @@ impl ParsedLine {
     {
         matches!(
             self,
-            ParsedLine::Asked(Request::Hold(_) | Request::Who | Request::End(_))
+            ParsedLine::Asked(Request::Hold(_) | Request::Who(_) | Request::End(_))
         )
     }
 }

@@ -1,11 +1,12 @@
 //! What a session writes for a line.
 
-ghost use Rattle.std.specs.Prelude.{◌≡◌, ◌^◌, ◌<◌, true, OnOk};
+ghost use Rattle.std.specs.Prelude.{◌≡◌, ◌≤◌, ◌^◌, ◌<◌, length, true, OnOk};
 ghost use Rattle.am_line_sink.specs.SinkWrites.{Wrote};
 ghost use Rattle.am_line_dialogue.specs.Responses.{response_text, fault_text, seen_text, hold_text, end_text};
-ghost use Rattle.am_line_dialogue.specs.Responses.{ends_itself, active_words, actives_words, who_text, who_response};
+ghost use Rattle.am_line_dialogue.specs.Responses.{ends_itself, standing_mark, told_words, sessions_words, who_text};
+ghost use Rattle.am_line_dialogue.specs.Responses.{who_response};
 
-use crate::active_sessions::{ActiveSession, ActiveSessions};
+use crate::told_sessions::{Standing, ToldSession, ToldSessions};
 use am_line_sink::{Failed, Sink, give_all};
 use am_line_text::{LineFault, Text};
 use am_line_wire::put_reply;
@@ -54,8 +55,8 @@ pub enum Response {
     Seen(u64, u64),
     /// Whether the session holds.
     Hold(HoldAnswer),
-    /// Which sessions have a transaction active.
-    Who(ActiveSessions),
+    /// What is told of sessions.
+    Who(ToldSessions),
     /// Whether a session ends.
     End(EndAnswer),
     /// No line came for too long, so the transaction was aborted. The line did nothing.
@@ -64,7 +65,7 @@ pub enum Response {
 
 impl Response {
     /// The response to WHO, for which memory may be refused.
-    pub fn of_who(answer: Result<ActiveSessions, NoMemory>) -> Response
+    pub fn of_who(answer: Result<ToldSessions, NoMemory>) -> Response
         ensures { result ≡ who_response answer }
     {
         match answer {
@@ -146,36 +147,48 @@ fn text_of_end(answer: EndAnswer) -> &'static [u8]
     }
 }
 
-// One session.
-fn active_words(active: &ActiveSession) -> Text
-    ensures { result ≡ active_words active.now }
+fn standing_mark(standing: Standing) -> &'static [u8]
+    ensures mark { result.now ≡ standing_mark standing }
+    ensures short { length result.now ≤ 2 }
 {
-    Text::new(b" ")
-        .then_number(active.session)
-        .then(b":")
-        .then_number(active.tx)
-        .then(b":")
-        .then_number(active.seconds)
+    match standing {
+        Standing::Free => b"",
+        Standing::Holds => b":h",
+        Standing::Waits => b":w",
+    }
 }
 
-fn put_actives<K: Sink>(sessions: &[ActiveSession], sink: &mut K) -> Result<(), Failed>
+// One session. No transaction has the number 0.
+fn told_words(told: &ToldSession) -> Text
+    ensures { result ≡ told_words told.now }
+{
+    Text::new(b" ")
+        .then_number(told.session)
+        .then(b":")
+        .then_number(told.tx.unwrap_or(0))
+        .then(b":")
+        .then_number(told.seconds)
+        .then(standing_mark(told.standing))
+}
+
+fn put_all<K: Sink>(sessions: &[ToldSession], sink: &mut K) -> Result<(), Failed>
     requires countable { K.failures sink.old < 2 ^ 63 }
-    ensures { Wrote K.holds K.failures sink.old (actives_words sessions.now) result sink.new }
+    ensures { Wrote K.holds K.failures sink.old (sessions_words sessions.now) result sink.new }
 {
     for session in sessions {
-        give_all(sink, active_words(session).as_slice())?;
+        give_all(sink, told_words(session).as_slice())?;
     }
     Ok(())
 }
 
 // Piece by piece: the line may be longer than any other.
-fn put_who<K: Sink>(sessions: &[ActiveSession], sink: &mut K) -> Result<(), Failed>
+fn put_who<K: Sink>(sessions: &[ToldSession], sink: &mut K) -> Result<(), Failed>
     requires countable { K.failures sink.old < 2 ^ 63 }
     ensures wrote { Wrote K.holds K.failures sink.old (who_text sessions.now) result sink.new }
     ensures pending { OnOk result (K.pending sink.new ≡ true) }
 {
     let head = Text::new(b"WHO ").then_number(sessions.len() as u64);
     give_all(sink, head.as_slice())?;
-    put_actives(sessions, sink)?;
+    put_all(sessions, sink)?;
     give_all(sink, b"\n")
 }

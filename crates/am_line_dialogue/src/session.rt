@@ -129,7 +129,7 @@ impl Session {
                 None => hold(millis),
                 Some(_) => Action::Answer(Response::Active),
             },
-            Request::Who => Action::TellWho,
+            Request::Who(which) => Action::TellWho(which),
             Request::End(session) => Action::AskEnd(session),
             Request::Quit => Action::Answer(Response::NoTransaction),
         }

@@ -5,7 +5,8 @@ ghost use Rattle.am_record.specs.Sessions.{IsAllowed, active_after};
 ghost use Rattle.am_line_dialogue.specs.Actions.{EndsAbort};
 ghost use Rattle.am_line_dialogue.specs.Backends.{BackendMeaning};
 
-use am_line_dialogue::{ActiveSessions, EndAnswer, HoldAnswer};
+use am_line_dialogue::{EndAnswer, HoldAnswer, ToldSessions};
+use am_line_wire::WhichSessions;
 use am_record::{NoMemory, Reply, Step};
 use std::alloc::Global;
 use std::rt::Clock;
@@ -42,7 +43,7 @@ pub trait Backend {
         requires idle { means.active self.now ≡ None }
         ensures holds { means.holds self.now millis result };
 
-    /// The sessions that have a transaction active. No step is taken, and others' steps aren't kept out.
+    /// The sessions that have a transaction active, or all. No step is taken, and others' steps aren't kept out.
     ///
     /// # Errors
     /// NoMemory, where memory was refused for them.
@@ -50,10 +51,11 @@ pub trait Backend {
         &self,
         rt: &W,
         alloc: Global,
+        which: WhichSessions,
         held: &Option<Self::Held>,
-    ) -> Result<ActiveSessions, NoMemory>
+    ) -> Result<ToldSessions, NoMemory>
         requires free { held.now ≡ None }
-        ensures tells { means.tells self.now result };
+        ensures tells { means.tells self.now which result };
 
     /// Has the session of that number end as one does whose client is gone: none of its lines is taken then. Where it
     /// is the session itself, that is told, and whoever asks ends it. No step is taken, and others' steps aren't kept

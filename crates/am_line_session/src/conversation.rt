@@ -64,9 +64,9 @@ fn respond<W: Wait + Clock, B: Backend>(
             Response::Seen(session, commits)
         }
         Action::AskHold(millis) => Response::Hold(backend.hold(rt, millis)),
-        Action::TellWho => {
+        Action::TellWho(which) => {
             *held = None;
-            Response::of_who(backend.who(rt, alloc, held))
+            Response::of_who(backend.who(rt, alloc, which, held))
         }
         Action::AskEnd(number) => {
             *held = None;

@@ -1,6 +1,8 @@
 -- The fields of a proper form spell that form and no other.
 use Rattle.std.proofs.Common.{◌≡◌, ℕ, ◌<◌, Bool, true, ◌&&◌, cond, List, [], ◌∷◌, length, map, Some, None, refl, ap}
-use Rattle.std.proofs.Common.{◌∙◌, subst, arith, option_map}
+use Rattle.std.proofs.Common.{◌∙◌, sym, subst, arith, option_map}
+use Rattle.std.specs.Prelude.{codes, bytes_eq}
+use Rattle.std.proofs.lemmas.Slice.Eq.{bytes_eq-Decides}
 use Rattle.std.specs.List.{list_all, AllByRecursion}
 use Rattle.std.proofs.lemmas.Bool.{and_parts, and_from, cond_both, cond-true}
 use Rattle.am_record.specs.declared.lock.Mode.{Mode}
@@ -10,7 +12,8 @@ use Rattle.am_line_text.specs.Numbers.{is_numeral, numeral, numeral_value}
 use Rattle.am_line_text.specs.Keys.{is_key_text}
 use Rattle.am_line_wire.specs.Shapes.{VerbShape, bare, one_key, one_record, one_number, range_and_number}
 use Rattle.am_line_wire.specs.Shapes.{mode_and_range}
-use Rattle.am_line_wire.specs.Shapes.{some_records}
+use Rattle.am_line_wire.specs.Shapes.{some_records, which_sessions}
+use Rattle.am_line_wire.specs.declared.request.WhichSessions.TheVariants as which
 use Rattle.am_line_wire.specs.Arguments.{Arguments, fields_of, AreProper}
 use Rattle.am_line_text.specs.Records.{RecordText, is_record_text, is_record_field, record_text}
 use Rattle.am_line_text.specs.Locks.{mode_word, mode_for}
@@ -57,6 +60,8 @@ arguments_in-fields_of mode_and_range a h =
     None ends
     ∙ ap (option_map (λ (m : Mode). (m, a.1, a.2))) (mode_for-mode_word a.0)
 arguments_in-fields_of some_records a h = records_back a h.0 h.1
+arguments_in-fields_of which_sessions which.Active h = refl
+arguments_in-fields_of which_sessions which.All h = refl
 
 -- ---- from fields to arguments and back
 
@@ -131,6 +136,13 @@ fields_of-arguments_in some_records [] a e = cc
 fields_of-arguments_in some_records (f ∷ fs) a e =
     found (AreOf some_records (f ∷ fs)) (list_all is_record_field (f ∷ fs)) (map record_text (f ∷ fs)) a
     (λ t. ((omega arith, are_proper (f ∷ fs) t), map_record_field-record_text (f ∷ fs) t)) e
+fields_of-arguments_in which_sessions [] a e =
+    let same : which.Active ≡ a = cc in
+    subst (AreOf which_sessions []) same (tt, refl)
+fields_of-arguments_in which_sessions (word ∷ []) a e = found (AreOf which_sessions (word ∷ []))
+    (bytes_eq word (codes "ALL")) which.All a
+    (λ t. (tt, ap (λ (w : List ℕ). w ∷ []) (sym ((bytes_eq-Decides word (codes "ALL")).0 t)))) e
+fields_of-arguments_in which_sessions (word ∷ f ∷ fs) a e = cc
 
 -- ---- fields have no space
 
@@ -153,3 +165,5 @@ fields_of-no_space mode_and_range a h = (
   (IsKeyText-no_space a.1 h.0, (IsKeyText-no_space a.2 h.1, tt)),
 )
 fields_of-no_space some_records a h = record_fields-no_space a h.1
+fields_of-no_space which_sessions which.Active h = tt
+fields_of-no_space which_sessions which.All h = (refl, tt)

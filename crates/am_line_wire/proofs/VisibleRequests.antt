@@ -9,7 +9,7 @@ use Rattle.am_record.specs.Records.{Records}
 use Rattle.am_line_text.specs.Values.{IsVisible, value_for}
 use Rattle.am_line_text.specs.Keys.{key_for}
 use Rattle.am_line_wire.specs.Shapes.{bare, one_key, one_record, one_number, range_and_number, mode_and_range}
-use Rattle.am_line_wire.specs.Shapes.{some_records}
+use Rattle.am_line_wire.specs.Shapes.{some_records, which_sessions}
 use Rattle.am_line_wire.specs.Grammar.{verb_shape, request_with, Reads}
 use Rattle.am_line_wire.specs.Arguments.{Arguments, AreProper, records_for, values_for}
 use Rattle.am_line_text.specs.Records.{RecordText, IsRecordText, record_for}
@@ -82,6 +82,7 @@ visible_with verb.Lock a r h e = told (request_with verb.Lock) (values_for mode_
 visible_with verb.Merge a r h e = told (request_with verb.Merge) (values_for one_number a) r (λ x f. tt) e
 visible_with verb.Hold a r h e = told (request_with verb.Hold) (values_for one_number a) r (λ x f. tt) e
 visible_with verb.End a r h e = told (request_with verb.End) (values_for one_number a) r (λ x f. tt) e
+visible_with verb.Who a r h e = told (request_with verb.Who) (values_for which_sessions a) r (λ x f. tt) e
 visible_with verb.Clean a r h e = told (request_with verb.Clean) (values_for range_and_number a) r (λ x f. tt) e
 visible_with v a r h e = told (request_with v) (values_for bare a) r (λ x f. tt) e
 

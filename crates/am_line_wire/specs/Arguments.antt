@@ -1,6 +1,6 @@
 -- What stands after the verb of a line: as texts of any size, and the values that these texts name where they are in
 -- bounds.
-use Rattle.std.specs.Prelude.{ℕ, ◌<◌, List, [], ◌∷◌, map, length, Option, Some, option_map}
+use Rattle.std.specs.Prelude.{ℕ, ◌<◌, List, [], ◌∷◌, map, length, codes, Option, Some, option_map}
 use Rattle.std.specs.Option.{option_zip}
 use Rattle.std.specs.List.{AllByRecursion}
 use Rattle.am_record.specs.OrderedKey.{OrderedKey}
@@ -14,7 +14,9 @@ use Rattle.am_line_text.specs.Records.{RecordText, record_field, IsRecordText, r
 use Rattle.am_line_text.specs.Locks.{mode_word, range_for, lock_in}
 use Rattle.am_line_wire.specs.Shapes.{VerbShape, bare, one_key, one_record, one_number, range_and_number}
 use Rattle.am_line_wire.specs.Shapes.{mode_and_range}
-use Rattle.am_line_wire.specs.Shapes.{some_records}
+use Rattle.am_line_wire.specs.Shapes.{some_records, which_sessions}
+use Rattle.am_line_wire.specs.declared.request.WhichSessions.{WhichSessions}
+use Rattle.am_line_wire.specs.declared.request.WhichSessions.TheVariants.{Active, All}
 
 -- ---- as texts
 
@@ -26,6 +28,12 @@ Arguments one_number = ℕ
 Arguments range_and_number = List ℕ × List ℕ × ℕ
 Arguments mode_and_range = Mode × List ℕ × List ℕ
 Arguments some_records = List RecordText
+Arguments which_sessions = WhichSessions
+
+-- the fields that say which sessions a line is about
+abbrev pub sessions_fields : WhichSessions → List (List ℕ)
+sessions_fields Active = []
+sessions_fields All = codes "ALL" ∷ []
 
 -- the fields of a line after its verb
 abbrev pub fields_of : (shape : VerbShape) → Arguments shape → List (List ℕ)
@@ -36,6 +44,7 @@ fields_of one_number n = numeral n ∷ []
 fields_of range_and_number a = a.0 ∷ a.1 ∷ numeral a.2 ∷ []
 fields_of mode_and_range a = mode_word a.0 ∷ a.1 ∷ a.2 ∷ []
 fields_of some_records rs = map record_field rs
+fields_of which_sessions which = sessions_fields which
 
 -- whether the keys and values may stand in a line
 abbrev pub AreProper : (shape : VerbShape) → Arguments shape → Type 0
@@ -46,6 +55,7 @@ AreProper one_number n = Unit {0}
 AreProper range_and_number a = IsKeyText a.0 × IsKeyText a.1
 AreProper mode_and_range a = IsKeyText a.1 × IsKeyText a.2
 AreProper some_records rs = (0 < length rs) × AllByRecursion IsRecordText rs
+AreProper which_sessions which = Unit {0}
 
 -- ---- as values
 
@@ -57,6 +67,7 @@ Values one_number = ℕ
 Values range_and_number = Interval × ℕ
 Values mode_and_range = Lock
 Values some_records = Records
+Values which_sessions = WhichSessions
 
 abbrev pub records_for : List RecordText → Option Records
 records_for [] = Some []
@@ -72,3 +83,4 @@ values_for one_number n = number_for n
 values_for range_and_number a = option_zip (range_for a.0 a.1) (number_for a.2)
 values_for mode_and_range a = option_map (lock_in a.0) (range_for a.1 a.2)
 values_for some_records rs = records_for rs
+values_for which_sessions which = Some which

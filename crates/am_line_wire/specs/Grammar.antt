@@ -6,7 +6,7 @@ use Rattle.am_record.specs.declared.step.Op.TheVariants as op
 use Rattle.am_line_text.specs.Verbs.{word_of}
 use Rattle.am_line_wire.specs.Shapes.{VerbShape, bare, one_key, one_record, one_number, range_and_number}
 use Rattle.am_line_wire.specs.Shapes.{mode_and_range}
-use Rattle.am_line_wire.specs.Shapes.{some_records}
+use Rattle.am_line_wire.specs.Shapes.{some_records, which_sessions}
 use Rattle.am_line_wire.specs.Arguments.{Arguments, Values, fields_of, AreProper, values_for}
 use Rattle.am_line_text.specs.declared.verb.Verb.{Verb}
 use Rattle.am_line_text.specs.declared.verb.Verb.TheVariants as verb
@@ -39,7 +39,7 @@ verb_shape verb.Merge = one_number
 verb_shape verb.Clean = range_and_number
 verb_shape verb.Seen = bare
 verb_shape verb.Hold = one_number
-verb_shape verb.Who = bare
+verb_shape verb.Who = which_sessions
 verb_shape verb.End = one_number
 verb_shape verb.Quit = bare
 
@@ -79,7 +79,7 @@ request_with verb.Merge n = Merge n
 request_with verb.Clean a = Clean a.0 a.1
 request_with verb.Seen a = Seen
 request_with verb.Hold n = Hold n
-request_with verb.Who a = Who
+request_with verb.Who which = Who which
 request_with verb.End n = End n
 request_with verb.Quit a = Quit
 

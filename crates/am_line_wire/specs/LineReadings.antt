@@ -1,5 +1,5 @@
 -- What a line is read as, by its fields.
-use Rattle.std.specs.Prelude.{◌≡◌, ◌⊎◌, ℕ, ◌&&◌, if◌then◌else◌, List, [], ◌∷◌, map, true, Option}
+use Rattle.std.specs.Prelude.{◌≡◌, ◌⊎◌, ℕ, ◌&&◌, if◌then◌else◌, List, [], ◌∷◌, map, true, codes, bytes_eq, Option}
 use Rattle.std.specs.Prelude.{Some, None, Result, Ok, Err, IsOk, is_some, option_map, ok_or}
 use Rattle.std.specs.List.{list_all}
 use Rattle.am_line_text.specs.Numbers.{is_numeral, numeral_value}
@@ -9,7 +9,8 @@ use Rattle.am_line_text.specs.Locks.{mode_for}
 use Rattle.am_line_text.specs.Verbs.{verb_for}
 use Rattle.am_line_wire.specs.Shapes.{VerbShape, bare, one_key, one_record, one_number, range_and_number}
 use Rattle.am_line_wire.specs.Grammar.{verb_shape, request_with, brings_records}
-use Rattle.am_line_wire.specs.Shapes.{mode_and_range, some_records}
+use Rattle.am_line_wire.specs.Shapes.{mode_and_range, some_records, which_sessions}
+use Rattle.am_line_wire.specs.declared.request.WhichSessions.TheVariants.{Active, All}
 use Rattle.am_line_wire.specs.Arguments.{Arguments, Values, values_for, records_for}
 use Rattle.am_line_text.specs.Records.{RecordText, record_text, is_record_text, is_record_field}
 use Rattle.am_line_text.specs.declared.verb.Verb.{Verb}
@@ -32,6 +33,8 @@ arguments_in range_and_number (lo ∷ hi ∷ n ∷ []) = if is_key_text lo && is
 arguments_in mode_and_range (mode ∷ lo ∷ hi ∷ []) = if is_key_text lo &&
     is_key_text hi then option_map (λ m. (m, lo, hi)) (mode_for mode) else None
 arguments_in some_records (f ∷ fs) = records_in (f ∷ fs)
+arguments_in which_sessions [] = Some Active
+arguments_in which_sessions (word ∷ []) = if bytes_eq word (codes "ALL") then Some All else None
 arguments_in shape fs = None
 
 -- what texts are read as: Syntax where there are none, Range where a value is out of bounds

@@ -1,7 +1,7 @@
 -- What may stand after the verb of a line.
 
 -- nothing, a key, a record's key and value, a number, the ends of a range and a number, a mode and the ends of a range,
--- or records written k=v, one at least
+-- records written k=v, one at least, or a word for all sessions, which may be left out
 pub data VerbShape : Type 0 where
   bare : VerbShape
   one_key : VerbShape
@@ -10,3 +10,4 @@ pub data VerbShape : Type 0 where
   range_and_number : VerbShape
   mode_and_range : VerbShape
   some_records : VerbShape
+  which_sessions : VerbShape

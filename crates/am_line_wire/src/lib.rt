@@ -11,4 +11,4 @@ mod shape;
 pub use grammar::one_reading;
 pub use parse::parse_line;
 pub use reply::{put_reply, replies_are_lines, reply_text};
-pub use request::Request;
+pub use request::{Request, WhichSessions};

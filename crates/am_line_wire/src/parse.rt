@@ -8,7 +8,7 @@ use crate::load::parse_records;
 use crate::request::Request;
 use crate::shape::{
     parse_bare, parse_mode_and_range, parse_one_key, parse_one_number, parse_one_record,
-    parse_range_and_number,
+    parse_range_and_number, parse_which_sessions,
 };
 use am_line_text::{Fields, LineFault, Verb};
 use am_record::Op;
@@ -80,7 +80,7 @@ fn parse_with(alloc: Global, verb: Verb, fields: Fields<'_>) -> Result<Request, 
         }
         Verb::Seen => parse_bare(fields, Request::Seen),
         Verb::Hold => Ok(Request::Hold(parse_one_number(fields)?)),
-        Verb::Who => parse_bare(fields, Request::Who),
+        Verb::Who => Ok(Request::Who(parse_which_sessions(fields)?)),
         Verb::End => Ok(Request::End(parse_one_number(fields)?)),
         Verb::Quit => parse_bare(fields, Request::Quit),
     }

@@ -2,6 +2,15 @@
 
 use am_record::{Op, Range, Records};
 
+/// The sessions that a WHO is about.
+#[derive(Clone, Copy, PartialEq, Eq)]
+pub enum WhichSessions {
+    /// Those that have a transaction active.
+    Active,
+    /// All that are served.
+    All,
+}
+
 /// What a line asks of its session.
 #[derive(PartialEq, Eq, Drop)]
 pub enum Request {
@@ -20,8 +29,8 @@ pub enum Request {
     Seen,
     /// Everybody else waits who has nothing begun, for at most so many milliseconds.
     Hold(u64),
-    /// Which sessions have a transaction active.
-    Who,
+    /// Which sessions there are, of these.
+    Who(WhichSessions),
     /// The session of this number ends.
     End(u64),
     /// The session ends.

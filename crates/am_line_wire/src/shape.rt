@@ -2,9 +2,10 @@
 
 ghost use Rattle.std.specs.Prelude.{◌≡◌};
 ghost use Rattle.am_line_wire.specs.Shapes.{bare, one_key, one_record, one_number, range_and_number, mode_and_range};
+ghost use Rattle.am_line_wire.specs.Shapes.{which_sessions};
 ghost use Rattle.am_line_wire.specs.LineReadings.{values_in, map_ok};
 
-use crate::request::Request;
+use crate::request::{Request, WhichSessions};
 use am_line_text::{
     Fields, LineFault, parse_key, parse_mode, parse_number, parse_range, parse_record,
 };
@@ -16,6 +17,22 @@ pub fn parse_bare(fields: Fields<'_>, request: Request) -> Result<Request, LineF
 {
     fields.end()?;
     Ok(request)
+}
+
+/// Nothing, or the word for all sessions.
+pub fn parse_which_sessions(mut fields: Fields<'_>) -> Result<WhichSessions, LineFault>
+    ensures { result ≡ values_in which_sessions fields.entry }
+{
+    if fields.end().is_ok() {
+        return Ok(WhichSessions::Active);
+    }
+    let word = fields.next()?;
+    fields.end()?;
+    if word == b"ALL".as_slice() {
+        Ok(WhichSessions::All)
+    } else {
+        Err(LineFault::Syntax)
+    }
 }
 
 /// A key.

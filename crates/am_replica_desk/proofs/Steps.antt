@@ -24,7 +24,7 @@ brings_none Commit brings = refl
 brings_none Abort brings = refl
 brings_none Seen brings = refl
 brings_none (Hold millis) brings = refl
-brings_none Who brings = refl
+brings_none (Who which) brings = refl
 brings_none (End session) brings = refl
 brings_none Quit brings = refl
 

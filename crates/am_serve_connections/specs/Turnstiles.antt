@@ -1,6 +1,7 @@
 -- A turnstile: who holds it, who waits at it, and who goes on.
 use Rattle.std.specs.Prelude.{ℕ, zero, suc, ◌+◌, ◌-◌, ◌/◌, ◌%◌, ◌==◌, min, max, nat_le, nat_lt, Bool, true, false, not}
 use Rattle.std.specs.Prelude.{◌&&◌, if◌then◌else◌, List, ◌∷◌, [], ◌++◌, drop, length, Option, Some, None, slice_get}
+use Rattle.std.specs.List.{list_any}
 use Rattle.am_serve_connections.specs.declared.line.Holder.{Holder}
 use Rattle.am_serve_connections.specs.declared.line.Waiter.{Waiter}
 use Rattle.am_serve_connections.specs.declared.line.Stage.{Stage}
@@ -9,6 +10,8 @@ use Rattle.am_serve_connections.specs.declared.line.Asked.{Asked}
 use Rattle.am_serve_connections.specs.declared.line.Asked.TheVariants.{KeptBy, OthersFirst, Asks}
 use Rattle.am_serve_connections.specs.declared.line.Grant.{Grant}
 use Rattle.am_serve_connections.specs.declared.line.Grant.TheVariants as grant
+use Rattle.am_serve_connections.specs.declared.line.Standing.{Standing}
+use Rattle.am_serve_connections.specs.declared.line.Standing.TheVariants as standing
 
 -- where one begins that asks to hold
 abbrev pub first_stage : Stage
@@ -127,6 +130,24 @@ nap_at (Holds until) now = min 100000 (until - now)
 abbrev pub nap_of : Option Holder → ℕ → ℕ
 nap_of None now = 0
 nap_of (Some holder) now = nap_at holder.stage now
+
+-- how a session of this number stands: as the one that holds or would, or among those that wait for their turns
+abbrev pub holder_standing : Stage → Standing
+holder_standing KeepsOut = standing.Waits
+holder_standing LetsIn = standing.Waits
+holder_standing (Holds until) = standing.Holds
+
+abbrev pub waits : List Waiter → ℕ → Bool
+waits waiting session = list_any (λ (waiter : Waiter). waiter.session == session) waiting
+
+abbrev pub waiter_standing : Bool → Standing
+waiter_standing true = standing.Waits
+waiter_standing false = standing.Free
+
+abbrev pub standing_of : Option Holder → List Waiter → ℕ → Standing
+standing_of None waiting session = waiter_standing (waits waiting session)
+standing_of (Some holder) waiting session =
+    if holder.session == session then holder_standing holder.stage else waiter_standing (waits waiting session)
 
 -- what stands in a word for a number, and which number by that: 0 stands for none
 abbrev pub mark_of : ℕ → ℕ

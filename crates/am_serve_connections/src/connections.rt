@@ -1,8 +1,9 @@
 //! The connections that are open: which transaction each has, how long ago its last line came, and how it is cut.
 
-ghost use Rattle.std.specs.Prelude.{◌≡◌, Some, option_map, nat_eq, IfOk};
-ghost use Rattle.am_serve_connections.specs.Connections.{idle_of, longer_idle, open_tx_of};
+ghost use Rattle.std.specs.Prelude.{◌≡◌, ◌≤◌, length, nat_eq, IfOk};
+ghost use Rattle.am_serve_connections.specs.Connections.{idle_of, longer_idle, session_seen};
 
+use crate::line::Standing;
 use crate::turnstile::{mark_of, number_in};
 use libc::net::{POLLERR, POLLHUP, POLLRDHUP, poll};
 use libc::types::pollfd;
@@ -23,26 +24,28 @@ const LEAVE_NAPS: u32 = 10;
 
 const LEAVE_NAP_MILLIS: u64 = 100;
 
-/// A session with an active transaction.
+/// A session that is served.
 #[derive(Clone, Copy, PartialEq, Eq)]
-pub struct OpenTransaction {
+pub struct ServedSession {
     pub session: u64,
-    pub tx: u64,
-    /// How many whole seconds ago the session's last line came.
+    /// The transaction that is active there, if one is.
+    pub tx: Option<u64>,
+    /// How many whole seconds ago its last line came.
     pub seconds: u64,
+    pub standing: Standing,
 }
 
 // What is told of a session, by what stands for its transaction, when its last line came and what time it is, both in
 // milliseconds.
-fn open_of(session: u64, mark: u64, heard_at: u64, now: u64) -> Option<OpenTransaction>
-    ensures { result ≡ open_tx_of session mark heard_at now }
+fn session_seen(session: u64, mark: u64, heard_at: u64, now: u64) -> ServedSession
+    ensures { result ≡ session_seen session mark heard_at now }
 {
-    let tx = number_in(mark)?;
-    Some(OpenTransaction {
+    ServedSession {
         session,
-        tx,
+        tx: number_in(mark),
         seconds: now.saturating_sub(heard_at) / MILLIS_A_SECOND,
-    })
+        standing: Standing::Free,
+    }
 }
 
 /// A session that has no transaction active, and from which no line came for so many milliseconds.
@@ -199,15 +202,15 @@ impl Place {
         }
     }
 
-    fn open<R: Wait>(&self, rt: &R, now: u64) -> Option<OpenTransaction> {
+    fn served<R: Wait>(&self, rt: &R, now: u64) -> Option<ServedSession> {
         let entry = self.entry.lock(rt);
         let session = entry.as_ref()?.session;
-        open_of(
+        Some(session_seen(
             session,
             self.tx.load(Ordering::SeqCst),
             self.heard_at.load(Ordering::SeqCst),
             now,
-        )
+        ))
     }
 }
 
@@ -345,14 +348,27 @@ impl Connections {
         }
     }
 
-    /// What time it is, for [`Connections::open_at`].
-    pub fn now<R: Clock>(&self, rt: &R) -> u64 {
+    // What time it is, in milliseconds.
+    fn now<R: Clock>(&self, rt: &R) -> u64 {
         self.age_at(Instant::now(rt).ok())
     }
 
-    /// The session at this place, where it has a transaction active.
-    pub fn open_at<R: Wait>(&self, rt: &R, place: usize, now: u64) -> Option<OpenTransaction> {
-        self.places.get(place)?.open(rt, now)
+    /// The sessions that are served, by their places. How each stands at a turnstile is for that.
+    pub fn served<R: Wait + Clock>(
+        &self,
+        rt: &R,
+        alloc: Global,
+    ) -> Result<Vec<ServedSession>, AllocError>
+        ensures few { IfOk result (λ served. length served.items ≤ self.now) }
+    {
+        let now = self.now(rt);
+        let mut served = Vec::new(alloc);
+        for place in &self.places {
+            if let Some(session) = place.served(rt, now) {
+                served.push(session)?;
+            }
+        }
+        Ok(served)
     }
 
     /// Cuts the connection of the session of that number, and returns once that session has left, with its transaction

@@ -1,13 +1,16 @@
 //! Who holds a turnstile, and who waits at it.
 
-ghost use Rattle.std.specs.Prelude.{◌≡◌, ◌≤◌, ◌<◌, [], None, length, nat_lt, IfOk};
+ghost use Rattle.std.specs.Prelude.{◌≡◌, ◌≤◌, ◌<◌, [], None, length, map, nat_lt, IfOk};
+ghost use Rattle.am_serve_connections.specs.Connections.{with_standing};
 ghost use Rattle.std.specs.VecDeque.{deque_capacity, deque_len};
 ghost use Rattle.am_serve_connections.specs.Tickets.{without};
 ghost use Rattle.am_serve_connections.specs.Turnstiles.{asked_anew, asking_end, first_stage, granted, granted_at};
-ghost use Rattle.am_serve_connections.specs.Turnstiles.{granted_beside, held_at, is_holder, is_kept, is_shut};
-ghost use Rattle.am_serve_connections.specs.Turnstiles.{joined_by, nap_of, next_waiter, released, shut_by, shuts};
-ghost use Rattle.am_serve_connections.specs.Turnstiles.{stage_at, stretch_of, waiting_after};
+ghost use Rattle.am_serve_connections.specs.Turnstiles.{granted_beside, held_at, holder_standing, is_holder};
+ghost use Rattle.am_serve_connections.specs.Turnstiles.{is_kept, is_shut, joined_by, nap_of, next_waiter, released};
+ghost use Rattle.am_serve_connections.specs.Turnstiles.{shut_by, shuts, stage_at, standing_of, stretch_of};
+ghost use Rattle.am_serve_connections.specs.Turnstiles.{waiter_standing, waiting_after, waits};
 
+use crate::connections::ServedSession;
 use std::alloc::{AllocError, Global};
 use std::collections::VecDeque;
 
@@ -51,6 +54,17 @@ pub(crate) struct Holder {
 pub(crate) struct Waiter {
     pub(crate) place: usize,
     pub(crate) session: u64,
+}
+
+/// How a session stands at a turnstile.
+#[derive(Clone, Copy, PartialEq, Eq)]
+pub enum Standing {
+    /// It neither holds nor waits.
+    Free,
+    /// It holds.
+    Holds,
+    /// It would hold, or waits for its turn.
+    Waits,
 }
 
 /// What becomes of a session that asks to hold.
@@ -122,6 +136,15 @@ impl Holder {
         }
     }
 
+    fn standing(&self) -> Standing
+        ensures { result ≡ holder_standing self.now.stage }
+    {
+        match self.stage {
+            Stage::KeepsOut | Stage::LetsIn => Standing::Waits,
+            Stage::Holds(_) => Standing::Holds,
+        }
+    }
+
     // How far it is at a time at which another is inside: others are kept out for the first stretch and the tenth.
     fn stage_at(&self, now: u64) -> Stage
         ensures { result ≡ stage_at self.now now }
@@ -168,6 +191,17 @@ impl Holder {
                 }
             },
         }
+    }
+}
+
+// How one stands that doesn't hold, by whether it waits.
+fn waiter_standing(waits: bool) -> Standing
+    ensures { result ≡ waiter_standing waits }
+{
+    if waits {
+        Standing::Waits
+    } else {
+        Standing::Free
     }
 }
 
@@ -330,6 +364,32 @@ impl Line {
             return None;
         }
         self.waiting.pop_front()
+    }
+
+    // Whether the session of this number waits for its turn.
+    fn waits(&self, session: u64) -> bool
+        ensures { result ≡ waits self.now.waiting.items session }
+    {
+        self.waiting.iter().any(|waiter| waiter.session == session)
+    }
+
+    // How the session of this number stands.
+    fn standing(&self, session: u64) -> Standing
+        ensures { result ≡ standing_of self.now.holder self.now.waiting.items session }
+    {
+        match self.holder {
+            Some(holder) if holder.session == session => holder.standing(),
+            _ => waiter_standing(self.waits(session)),
+        }
+    }
+
+    /// Says of these sessions how they stand.
+    pub(crate) fn tell(&self, sessions: &mut [ServedSession])
+        ensures { sessions.new ≡ map (with_standing self.now.holder self.now.waiting.items) sessions.old }
+    {
+        for told in sessions.iter_mut() {
+            told.standing = self.standing(told.session);
+        }
     }
 
     /// How many microseconds one that waits sleeps until it looks again.

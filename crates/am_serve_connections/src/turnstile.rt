@@ -2,9 +2,10 @@
 
 ghost use Rattle.std.specs.Prelude.{◌≡◌, ◌≢◌, ◌<◌, ◌≤◌, IfOk};
 ghost use Rattle.am_serve_connections.specs.declared.turnstile.HoldReply.{HoldReply};
+ghost use Rattle.am_serve_connections.specs.Connections.{AreToldAtOnce};
 ghost use Rattle.am_serve_connections.specs.Turnstiles.{mark_of, mark_number};
 
-use crate::connections::Connections;
+use crate::connections::{Connections, ServedSession};
 use crate::line::{Asked, Grant, Holder, Line, NAP_MICROS, Waiter};
 use crate::tickets::{PATIENCE_MICROS, TicketLine, Tickets, patience_end, rest_of};
 use std::alloc::{AllocError, Global};
@@ -417,6 +418,16 @@ impl Turnstile {
         if self.held_at.load(Ordering::SeqCst) == mark_of(place as u64) {
             self.give_way(rt, place);
         }
+    }
+
+    /// Says of these sessions how they stand, all at one moment.
+    pub fn tell<R: Wait + Clock>(&self, rt: &R, sessions: &mut [ServedSession])
+        ensures { AreToldAtOnce sessions.old sessions.new }
+    {
+        let mut lines = self.lines.lock(rt);
+        lines.turns.look(self.now(rt));
+        self.let_go_on(&mut lines);
+        lines.turns.tell(sessions);
     }
 
     /// Nobody holds any more, and nobody will: sessions that wait here end as others do.

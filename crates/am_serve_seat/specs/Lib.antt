@@ -1,2 +1,3 @@
+pub mod ToldSessions
 pub mod SessionSeats
 pub mod Seats

@@ -14,6 +14,7 @@ use Rattle.am_latch.specs.Ties.{open_of}
 use Rattle.am_latch.specs.Wants.{CallMayWant}
 use Rattle.am_latch_counters.specs.Counters.{CounterHistory, most_draws}
 use Rattle.am_line_dialogue.specs.Backends.{BackendMeaning}
+use Rattle.am_serve_seat.specs.ToldSessions.{TellsServed}
 use Rattle.am_line_dialogue.specs.declared.response.EndAnswer.{EndAnswer}
 use Rattle.am_line_dialogue.specs.declared.response.EndAnswer.TheVariants.{EndsItself}
 
@@ -57,16 +58,15 @@ pub record ShowsCounts (old : SessionSeatState) (number commits : ℕ) (new : Se
 abbrev pub EndsOwn : SessionSeatState → ℕ → EndAnswer → Type 0
 EndsOwn p session answer = MatchBool (session == p.number) (answer ≡ EndsItself) (answer ≢ EndsItself)
 
--- Who would hold may hear anything: that is for the turnstile. Who has a transaction active at other seats is for the
--- connections. When a transaction lapses is for the clock. It does so only at a server that stays, which alone makes so
--- many runs.
+-- Who would hold may hear anything: that is for the turnstile. Which sessions are served is for the connections. When a
+-- transaction lapses is for the clock. It does so only at a server that stays, which alone makes so many runs.
 abbrev pub seat_meaning : ℕ → BackendMeaning SessionSeatState
 seat_meaning most_runs = record {
   active = open_at;
   steps = MakesCall most_runs;
   shows = ShowsCounts;
   holds = λ p millis answer. Unit {0};
-  tells = λ p told. Unit {0};
+  tells = λ p which told. TellsServed which told;
   ends = EndsOwn;
   lapses = max_runs < most_runs;
 }

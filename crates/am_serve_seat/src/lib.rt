@@ -8,6 +8,7 @@
 mod laws;
 mod seats;
 mod session_seat;
+mod told;
 
 pub use laws::sessions_have_receipts;
 pub use seats::{assign_seats, take_seats};

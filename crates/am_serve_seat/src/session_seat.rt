@@ -6,10 +6,12 @@ ghost use Rattle.am_record.specs.Limits.{max_runs};
 ghost use Rattle.am_latch.specs.Receipts.{last_commit_of};
 ghost use Rattle.am_serve_seat.specs.SessionSeats.{published, seat_meaning, HasDrawn, HasSameReceipts};
 
+use crate::told::who;
 use am_latch::{Latch, LatchName, Locked, Seat};
 use am_latch_counters::{CounterSeat, Counters};
-use am_line_dialogue::{ActiveSession, ActiveSessions, EndAnswer, HoldAnswer};
+use am_line_dialogue::{EndAnswer, HoldAnswer, ToldSessions};
 use am_line_session::Backend;
+use am_line_wire::WhichSessions;
 use am_record::{NoMemory, Op, Reply, Step};
 use am_serve_connections::{Connections, HoldReply, MergePacer, Turnstile};
 use std::alloc::Global;
@@ -197,20 +199,10 @@ impl<'a, L: LatchName> Backend for SessionSeat<'a, L> {
         &self,
         rt: &W,
         alloc: Global,
+        which: WhichSessions,
         _held: &Option<Locked<'a, L>>,
-    ) -> Result<ActiveSessions, NoMemory> {
-        let now = self.connections.now(rt);
-        let mut sessions = Vec::new(alloc);
-        for place in 0..self.connections.count() {
-            if let Some(open) = self.connections.open_at(rt, place, now) {
-                sessions.push(ActiveSession {
-                    session: open.session,
-                    tx: open.tx,
-                    seconds: open.seconds,
-                })?;
-            }
-        }
-        Ok(ActiveSessions::new(sessions))
+    ) -> Result<ToldSessions, NoMemory> {
+        who(rt, alloc, which, self.connections, self.turnstile)
     }
 
     fn end<W: Wait>(&self, rt: &W, session: u64, _held: &Option<Locked<'a, L>>) -> EndAnswer {

@@ -1,9 +1,10 @@
 //! A backend that notes what is asked of it.
 
-use am_line_dialogue::{ActiveSession, ActiveSessions, EndAnswer, HoldAnswer};
+use am_line_dialogue::{EndAnswer, HoldAnswer, Standing, ToldSession, ToldSessions};
 use am_line_session::{Backend, End, serve};
 use am_line_sink::{Failed, Sink, StopSink};
 use am_line_source::{PieceSource, Source};
+use am_line_wire::WhichSessions;
 use am_record::{NoMemory, Reply, Step};
 use std::alloc::Global;
 use std::process::Abort;
@@ -31,13 +32,22 @@ fn to_note(aborts: &AtomicU64, most_lines: u64) -> Noting<'_> {
     }
 }
 
+fn told(session: u64, tx: Option<u64>, seconds: u64, standing: Standing) -> ToldSession {
+    ToldSession {
+        session,
+        tx,
+        seconds,
+        standing,
+    }
+}
+
 impl<'a> Backend for Noting<'a> {
     ghost means = { record {
       active = λ b. b.active;
       steps = λ _ _ _ _. Unit {0};
       shows = λ _ _ _ _. Unit {0};
       holds = λ _ _ _. Unit {0};
-      tells = λ _ _. Unit {0};
+      tells = λ _ _ _. Unit {0};
       ends = λ _ _ _. Unit {0};
       lapses = Unit {0};
     } };
@@ -80,22 +90,19 @@ impl<'a> Backend for Noting<'a> {
         &self,
         _rt: &W,
         alloc: Global,
+        which: WhichSessions,
         _held: &Option<()>,
-    ) -> Result<ActiveSessions, NoMemory> {
+    ) -> Result<ToldSessions, NoMemory> {
         let mut sessions = Vec::new(alloc);
-        if let Some(tx) = self.active {
-            sessions.push(ActiveSession {
-                session: 0,
-                tx,
-                seconds: 0,
-            })?;
-            sessions.push(ActiveSession {
-                session: 7,
-                tx: u64::MAX,
-                seconds: 60,
-            })?;
+        if self.active.is_some() {
+            sessions.push(told(0, self.active, 0, Standing::Free))?;
+            sessions.push(told(7, Some(u64::MAX), 60, Standing::Free))?;
         }
-        Ok(ActiveSessions::new(sessions))
+        if which == WhichSessions::All {
+            sessions.push(told(8, None, 1, Standing::Waits))?;
+            sessions.push(told(9, Some(2), u64::MAX, Standing::Holds))?;
+        }
+        Ok(ToldSessions::new(sessions))
     }
 
     fn end<W: Wait>(&self, _rt: &W, session: u64, _held: &Option<()>) -> EndAnswer {
@@ -147,13 +154,14 @@ fn what_is_active_is_aborted(rt: HostRuntime) -> Result<(), Fail> {
 fn who_ends_itself_is_done(rt: HostRuntime) -> Result<(), Fail> {
     let aborts = AtomicU64::new(0);
     let mut backend = to_note(&aborts, u64::MAX);
-    let lines = b"WHO\nBEGIN\nWHO\nEND 7\nEND 8\nEND\nEND 0\nSEEN\nQUIT\n".as_slice();
+    let lines = b"WHO\nBEGIN\nWHO\nWHO ALL\nEND 7\nEND 8\nEND\nEND 0\nSEEN\nQUIT\n".as_slice();
     let mut source = PieceSource::new(lines, &[], 0);
     let mut sink = StopSink::new(rt.alloc(), 0);
     let end = serve(&rt, rt.alloc(), &mut source, &mut sink, &mut backend, 0);
     assert!(rt; end == End::EndedItself && aborts.load(Ordering::SeqCst) == 1);
-    let told =
-        b"WHO 0\nBEGUN 1\nWHO 2 0:1:0 7:18446744073709551615:60\nOK\nERR SESSION\nERR SYNTAX\nOK\n";
+    let told = b"WHO 0\nBEGUN 1\nWHO 2 0:1:0 7:18446744073709551615:60\n\
+        WHO 4 0:1:0 7:18446744073709551615:60 8:0:1:w 9:2:18446744073709551615:h\n\
+        OK\nERR SESSION\nERR SYNTAX\nOK\n";
     assert!(rt; sink.into_bytes().as_slice() == told.as_slice());
     Ok(())
 }

@@ -2,7 +2,7 @@
 
 use crate::keys::{key, range, value};
 use am_line_text::LineFault;
-use am_line_wire::{Request, parse_line};
+use am_line_wire::{Request, WhichSessions, parse_line};
 use am_record::{Lock, Mode, Op, Records};
 use std::alloc::Global;
 use std::process::Abort;
@@ -31,7 +31,8 @@ fn lines_of_a_word_or_a_key_are_read(rt: HostRuntime) {
     asks(&rt, alloc, b"ABORT", Request::Abort);
     asks(&rt, alloc, b"SEEN", Request::Seen);
     asks(&rt, alloc, b"HOLD 60001", Request::Hold(60_001));
-    asks(&rt, alloc, b"WHO", Request::Who);
+    asks(&rt, alloc, b"WHO", Request::Who(WhichSessions::Active));
+    asks(&rt, alloc, b"WHO ALL", Request::Who(WhichSessions::All));
     asks(
         &rt,
         alloc,

@@ -2,7 +2,7 @@
 
 use am_index_btree::BTree;
 use am_line_dialogue::{
-    Action, ActiveSessions, EndAnswer, HoldAnswer, Response, Session, parse, put_response,
+    Action, EndAnswer, HoldAnswer, Response, Session, ToldSessions, parse, put_response,
 };
 use am_line_sink::StopSink;
 use am_line_source::{LineKind, MAX_LINE_LEN};
@@ -78,8 +78,8 @@ impl Scene {
             Action::TellSeen => text_of(self.alloc, &Response::Seen(0, self.store.commits())),
             // (a scene has no turnstile, and no connections)
             Action::AskHold(_) => text_of(self.alloc, &Response::Hold(HoldAnswer::Granted)),
-            Action::TellWho => {
-                let nobody = ActiveSessions::new(Vec::new(self.alloc));
+            Action::TellWho(_) => {
+                let nobody = ToldSessions::new(Vec::new(self.alloc));
                 text_of(self.alloc, &Response::Who(nobody))
             }
             Action::AskEnd(_) => text_of(self.alloc, &Response::End(EndAnswer::NoSession)),

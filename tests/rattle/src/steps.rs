@@ -251,6 +251,7 @@ fn a_commit_is_read_where_an_abort_came_behind(rt: HostRuntime) -> Result<(), No
         (S2, "BEGIN", "BEGUN 3"),
         (S2, "HOLD 0", "ERR ACTIVE"),
         (S2, "WHO", "WHO 0"),
+        (S2, "WHO all", "ERR SYNTAX"),
         (S2, "END 7", "ERR SESSION"),
     ];
     let mut scene = Scene::open(rt.alloc())?;

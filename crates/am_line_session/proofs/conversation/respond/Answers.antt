@@ -61,10 +61,11 @@ pub returns-in-TellWho-clause-responds : goal.returns-in-TellWho-clause-responds
 returns-in-TellWho-clause-responds g c = (
   [],
   (
-    TellWho,
+    TellWho c.in-TellWho.which,
     c.action.new.self.staged,
-    due_at (g.B.Backend.means.active c.args.backend.now) c.args.session.now c.action.new.self c.args.parsed TellWho
-        c.requires c.action.ensures.active (rw c.in-TellWho.is at c.action.ensures.action),
+    due_at (g.B.Backend.means.active c.args.backend.now) c.args.session.now c.action.new.self c.args.parsed
+        (TellWho c.in-TellWho.which) c.requires c.action.ensures.active
+        (rw c.in-TellWho.is at c.action.ensures.action),
     (c.who.result, c.of_who.ensures, (c.who.ensures.tells, (refl, refl))),
   ),
 )

@@ -154,8 +154,11 @@ returns-in_err-parse_one_number-in-Hold c = due verb.Hold c.args.verb c.args.fie
 pub returns-in_ok-parse_one_number-in-Hold : goal.returns-in_ok-parse_one_number-in-Hold
 returns-in_ok-parse_one_number-in-Hold c = due verb.Hold c.args.verb c.args.fields _ c.in-Hold.is (search rules)
 
-pub returns-in-Who : goal.returns-in-Who
-returns-in-Who c = due verb.Who c.args.verb c.args.fields _ c.in-Who.is c.parse_bare-in-Who.ensures
+pub returns-in_err-parse_which_sessions-in-Who : goal.returns-in_err-parse_which_sessions-in-Who
+returns-in_err-parse_which_sessions-in-Who c = due verb.Who c.args.verb c.args.fields _ c.in-Who.is (search rules)
+
+pub returns-in_ok-parse_which_sessions-in-Who : goal.returns-in_ok-parse_which_sessions-in-Who
+returns-in_ok-parse_which_sessions-in-Who c = due verb.Who c.args.verb c.args.fields _ c.in-Who.is (search rules)
 
 pub returns-in_err-parse_one_number-in-End : goal.returns-in_err-parse_one_number-in-End
 returns-in_err-parse_one_number-in-End c = due verb.End c.args.verb c.args.fields _ c.in-End.is (search rules)
