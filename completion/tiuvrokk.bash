@@ -6,7 +6,7 @@ _tiuvrokk_words() {
     amserve)
         case ${COMP_WORDS[1]-} in
         alone) echo '--auto --help' ;;
-        listen) echo '--port --socket --sessions --workers --trace --stop --hold --stay --grace --idle --idle-transaction --idle-seat --log --help' ;;
+        listen) echo '--port --socket --sessions --workers --trace --stop --hold --stay --grace --idle --idle-transaction --idle-seat --runs --log --help' ;;
         *) echo 'alone listen help --help --version' ;;
         esac
         ;;
@@ -23,7 +23,7 @@ _tiuvrokk() {
     local program=${1##*/} word=$2 before=$3
     COMPREPLY=()
     case $before in
-    --port | --sessions | --workers | --hold | --tries | --grace | --idle | --idle-transaction | --idle-seat | --auto | --run | --key-bytes | --value-bytes | --wait | --log | --limit | --snapshot | --user) return ;;
+    --port | --sessions | --workers | --hold | --tries | --grace | --idle | --idle-transaction | --idle-seat | --runs | --auto | --run | --key-bytes | --value-bytes | --wait | --log | --limit | --snapshot | --user) return ;;
     --reads) mapfile -t COMPREPLY < <(compgen -W 'log local' -- "$word") ;;
     --trace | --socket | --store | --history | --cacert | --cert | --key) mapfile -t COMPREPLY < <(compgen -f -- "$word") ;;
     *)

@@ -130,6 +130,45 @@ def workers_that_rest(trace: str) -> None:
     stopped(server)
 
 
+def merged_unasked(trace: str) -> None:
+    """Runs that nobody reads are merged once their loads have ended, but for 64 and what came in between; a scan is answered soon, and
+    what a session asks for meanwhile is merged next."""
+    server = stay("--sessions", "1", "--workers", "1", "--log", trace=trace)
+    client = Client(server.port)
+    loads, rng = 5_000, random.Random(7)
+    keys = list(range(loads * 64))
+    rng.shuffle(keys)
+    lines = ["BEGIN"]
+    for load in range(loads):
+        if load % 250 == 249:
+            lines += ["COMMIT", "BEGIN"]
+        lines.append("LOAD " + " ".join(f"{key:07}=v" for key in sorted(keys[load * 64 : load * 64 + 64])))
+    wanted("loads", {answer.split()[0] for answer in client.ask_at_once([*lines, "COMMIT"])}, {"BEGUN", "OK", "COMMITTED"})
+    await_rest(server)
+    begun = time.monotonic()
+    wanted("a scan", len(client.ask_all(["BEGIN", "SCAN 0100000 0200000 100", "COMMIT"])[1].split()), 102)
+    if time.monotonic() > begun + 1:
+        fail(f"a scan of 100 took {time.monotonic() - begun} seconds")
+    client.quit()
+    told = dict(word.split("=") for word in stopped(server)[2].split())
+    if int(told["runs"]) > 130:
+        fail(f"{told['runs']} runs are left that nobody asked for")
+    wanted("audit", audit(trace).split()[0], "LEGAL")
+    with open(trace, encoding="ascii") as file:
+        steps = [line.split(" | ")[0].split() for line in file]
+    # (the session asks for 100 rows, and a worker for one)
+    for place, step in enumerate(steps):
+        verbs = [other[0] for other in steps[place - 1 : place + 2]]
+        if step[0] == "SCAN" and step[-1] == "1" and verbs not in (["BEGIN", "SCAN", "COMMIT"], ["BEGIN", "SCAN", "ABORT"]):
+            fail(f"a worker's read in pieces: {verbs}")
+    server = stay("--sessions", "1", "--workers", "1", "--runs", "0", "--log")
+    client = Client(server.port)
+    client.ask_all(["BEGIN", *(f"LOAD {key:03}=v" for key in range(200)), "COMMIT"])
+    await_rest(server)
+    client.quit()
+    wanted("runs of a server that merges none unasked", "runs=200" in stopped(server)[2], True)
+
+
 # How many steps a session has that asks often.
 SESSION = 2_500
 
@@ -916,7 +955,7 @@ def socket_alone(folder: str) -> None:
 
 def wrong_words() -> None:
     """Words that go with a server that stays alone."""
-    for words in (["--grace", "1"], ["--log"], ["--idle", "1"], ["--stay", "--socket", ""], ["--stay", "--grace", "3601"], ["--stay", "--idle", "0"]):
+    for words in (["--grace", "1"], ["--log"], ["--idle", "1"], ["--runs", "1"], ["--stay", "--socket", ""], ["--stay", "--grace", "3601"], ["--stay", "--idle", "0"]):
         run = subprocess.run([built("am_program_listen"), "listen", "--port", "0", *words], capture_output=True, text=True, timeout=LIMIT, check=False)
         wanted(f"the status of {words}", run.returncode, 2)
 
@@ -951,6 +990,7 @@ def main() -> None:
         staged_and_left(30)
         long_sessions()
         workers_that_rest(trace)
+        merged_unasked(trace)
         waiting_connections()
         many_at_once()
         connections_that_are_not_served(os.path.join(folder, "door"))

@@ -1,4 +1,5 @@
 pub mod Faults
+pub mod Holds
 pub mod Receipts
 pub mod Tables
 pub mod Ties

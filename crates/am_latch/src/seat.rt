@@ -10,6 +10,7 @@ ghost use Rattle.am_latch_engine.specs.Wants.{takes_lists};
 ghost use Rattle.am_latch_ties.specs.Receipts.{receipts_of};
 ghost use Rattle.am_latch.specs.Receipts.{SeatState, new_seat, HasReceiptOf, moved_in, last_commit_of};
 ghost use Rattle.am_latch.specs.Receipts.{receipts_held, positions_of, AreBehind};
+ghost use Rattle.am_latch.specs.Holds.{IsCalledOn};
 ghost use Rattle.am_latch.specs.Ties.{open_of, EndsTx, receipts_needed, receipt_room};
 ghost use Rattle.am_latch.specs.Wants.{CallMayWant};
 ghost use Rattle.am_latch_ties.specs.declared.views.View.TheVariants.{Receipts};
@@ -181,8 +182,8 @@ impl<L: LatchName> Seat<L> {
         self.call_on(rt, latch, &mut held, step)
     }
 
-    /// Takes a step as `call` does, and goes on having the latch: where it is held it isn't taken anew. Nobody else's
-    /// step comes between those that are taken so, and everybody waits until it is let go.
+    /// Takes a step as `call` does, and goes on having the latch: where it is held it isn't taken anew. Steps that are
+    /// taken so stand in the trace one right after another, and everybody waits until the latch is let go.
     pub fn call_on<'a, R: Wait>(
         &mut self,
         rt: &R,
@@ -192,6 +193,7 @@ impl<L: LatchName> Seat<L> {
     ) -> Reply
         requires { IsAllowed (open_of self.old.receipts) step }
         ensures called { HasReceiptOf self.old step result self.new }
+        ensures there { IsCalledOn held.old self.old step result held.new self.new }
         ensures full { (result ≡ Refused SeatFull) ↔ ((1000000 ≤ receipts_held self.old) × (end_of step ≡ None)) }
         ensures memory { result ≡ Refused NoMemory → CallMayWant L.seats L.most_runs self.old step }
         ensures ended { EndsTx step result }
@@ -215,6 +217,7 @@ impl<L: LatchName> Seat<L> {
         requires may { IsAllowed (open_of self.old.receipts) step }
         requires room { end_of step ≡ None → receipts_held self.old < 1000000 }
         ensures called { HasReceiptOf self.old step result self.new }
+        ensures there { IsCalledOn held.old self.old step result held.new self.new }
         ensures never_full { result ≢ Refused SeatFull }
         ensures memory { result ≡ Refused NoMemory → CallMayWant L.seats L.most_runs self.old step }
         ensures ended { EndsTx step result }

@@ -188,6 +188,7 @@ fn serve_with<
         lapse: seconds(listening.lapse),
         idle_seat: seconds(listening.idle_seat),
         hold: listening.hold,
+        runs: listening.runs,
     };
     let setup = DrainSetup {
         pieces,

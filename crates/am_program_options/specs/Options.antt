@@ -50,6 +50,13 @@ idle_seat = record { least = 0; most = 0; default = Some 0 }
 abbrev pub staying_idle_seat : Setting
 staying_idle_seat = record { least = 0; most = 43200; default = Some 60 }
 
+abbrev pub bounded_runs : Setting
+bounded_runs = record { least = 0; most = 0; default = Some 0 }
+
+-- of a server that stays
+abbrev pub staying_runs : Setting
+staying_runs = record { least = 0; most = 65535; default = Some 64 }
+
 abbrev pub workers : Setting
 workers = record { least = 0; most = 16; default = Some 1 }
 
@@ -80,7 +87,7 @@ common_app =
     let with_workers = with_rule with_sessions (number_rule (option_rule (codes "workers")) workers) in
     with_rule with_workers (option_rule (codes "trace"))
 
--- and `[--stop] [--hold MS] [--stay] [--grace S] [--idle S] [--idle-transaction S] [--idle-seat S] [--log]`
+-- and `[--stop] [--hold MS] [--stay] [--grace S] [--idle S] [--idle-transaction S] [--idle-seat S] [--runs N] [--log]`
 abbrev pub listen_app : App
 listen_app =
     let with_stop = with_rule common_app (flag_rule (codes "stop")) in
@@ -90,7 +97,8 @@ listen_app =
     let with_idle = with_rule with_grace (number_rule (option_rule (codes "idle")) idle) in
     let with_lapse = with_rule with_idle (number_rule (option_rule (codes "idle-transaction")) staying_lapse) in
     let with_idle_seat = with_rule with_lapse (number_rule (option_rule (codes "idle-seat")) staying_idle_seat) in
-    with_rule with_idle_seat (flag_rule (codes "log"))
+    let with_runs = with_rule with_idle_seat (number_rule (option_rule (codes "runs")) staying_runs) in
+    with_rule with_runs (flag_rule (codes "log"))
 
 -- `amserve`, which has a version and wants a subcommand
 abbrev pub amserve_shape : Shape
@@ -144,6 +152,10 @@ SetsLapse rows stays = Sets (cond stays staying_lapse lapse) (first_of (codes "i
 abbrev pub SetsIdleSeat : List Row → Bool → ℕ → Type 0
 SetsIdleSeat rows stays = Sets (cond stays staying_idle_seat idle_seat) (first_of (codes "idle-seat") rows)
 
+-- and above how many runs workers merge what nobody asked for
+abbrev pub SetsRuns : List Row → Bool → ℕ → Type 0
+SetsRuns rows stays = Sets (cond stays staying_runs bounded_runs) (first_of (codes "runs") rows)
+
 -- the rows of `listen` name the place, these numbers and the trace's file, which has a name, and say whether to await a
 -- STOP, whether the server stays, and whether it tells how it does; limits of time, and that it tells, go with one that
 -- stays
@@ -161,6 +173,7 @@ pub record NamesListening (rows : List Row) (listening : Listening) : Type 0 whe
   pub idle_set : SetsIfGiven idle (first_of (codes "idle") rows) listening.idle
   pub lapse_set : SetsLapse rows listening.stays listening.lapse
   pub idle_seat_set : SetsIdleSeat rows listening.stays listening.idle_seat
+  pub runs_set : SetsRuns rows listening.stays listening.runs
   pub log_told : IsTrue listening.is_logged ↔ (first_of (codes "log") rows ≡ Some (codes "true"))
   pub together : listening.stays ≡ false → (listening.grace ≡ None) × (listening.idle ≡ None) ×
       (listening.is_logged ≡ false)

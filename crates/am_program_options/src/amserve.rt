@@ -6,7 +6,7 @@ ghost use Rattle.clap.specs.Words.{app_of, first_of, found_of, rows_of, rule_of,
 ghost use Rattle.am_program_start.specs.Arguments.{IsCommand};
 ghost use Rattle.am_program_start.specs.Faults.{Refuses};
 ghost use Rattle.am_program_options.specs.Options.{Names, NamesListening, NamesPlace, Selects, Sets, SetsIfGiven};
-ghost use Rattle.am_program_options.specs.Options.{SetsIdleSeat, SetsLapse};
+ghost use Rattle.am_program_options.specs.Options.{SetsIdleSeat, SetsLapse, SetsRuns};
 ghost use Rattle.am_program_options.specs.Options.{alone_app, amserve_app, common_app, listen_app, number_rule};
 ghost use Rattle.am_program_options.specs.Options.{option_rule};
 
@@ -95,6 +95,20 @@ const STAYING_IDLE_SEAT: Setting = Setting {
     default: Some(60),
 };
 
+/// Above how many runs workers merge what nobody asked for; 0 for never. In a bounded server they never do.
+const RUNS: Setting = Setting {
+    least: 0,
+    most: 0,
+    default: Some(0),
+};
+
+/// The same of a server that stays.
+const STAYING_RUNS: Setting = Setting {
+    least: 0,
+    most: 65535,
+    default: Some(64),
+};
+
 /// For how many milliseconds at most a session may hold.
 const HOLD: Setting = Setting {
     least: 0,
@@ -135,7 +149,7 @@ fn expected(matches: &ArgMatches<'_>) -> &'static str {
                 .or(text_in(given, "socket"))
                 .is_none() => { "listen wants --port P, --socket PATH or both" }
         _ => {
-            "expected alone or listen, files that have names, and --stay beside --grace, --idle, --idle-transaction, --idle-seat and --log"
+            "expected alone or listen, files that have names, and --stay beside --grace, --idle, --idle-transaction, --idle-seat, --runs and --log"
         }
     }
 }
@@ -168,8 +182,8 @@ fn alone<'a>(alloc: Global) -> Result<Command<'a>, AllocError>
 }
 
 /// `listen`, with what each server takes, `[--stop] [--hold MS]` too, and what goes with one that stays:
-/// `[--stay] [--grace S] [--idle S] [--idle-transaction S] [--idle-seat S] [--log]`. It has a frame of its own, so that
-/// none is large.
+/// `[--stay] [--grace S] [--idle S] [--idle-transaction S] [--idle-seat S] [--runs N] [--log]`. It has a frame of its
+/// own, so that none is large.
 #[inline(never)]
 fn listen<'a>(alloc: Global) -> Result<Command<'a>, AllocError>
     ensures { IfOk result (λ command. IsCommand listen_app command) }
@@ -219,6 +233,13 @@ fn listen<'a>(alloc: Global) -> Result<Command<'a>, AllocError>
             "S",
             "With --stay: where all sessions are taken, end for a newcomer the one that was idle longest, without a transaction, for more than S seconds, 0 to 43200; 0 for never [default: 60]",
             STAYING_IDLE_SEAT,
+        ))?
+        .arg(number(
+            alloc,
+            "runs",
+            "N",
+            "With --stay: workers merge in idle time what nobody asked for, where more than N runs have entries, 0 to 65535; 0 for never [default: 64]",
+            STAYING_RUNS,
         ))?
         .arg(flag(
             alloc,
@@ -329,6 +350,7 @@ fn listening_in<'a>(given: &ArgMatches<'a>) -> Option<Listening<'a>>
     let stays = is_given(given, "stay");
     let sessions = if stays { STAYING_SESSIONS } else { SESSIONS };
     let silence = silence_in(given, stays)?;
+    let runs = if stays { STAYING_RUNS } else { RUNS };
     let listening = Listening {
         place: place_in(text_in(given, "port"), text_in(given, "socket"))?,
         sessions: u64::from(number_in(given, "sessions", sessions)?),
@@ -341,6 +363,7 @@ fn listening_in<'a>(given: &ArgMatches<'a>) -> Option<Listening<'a>>
         idle: seconds_in(text_in(given, "idle"), IDLE)?,
         lapse: silence.lapse,
         idle_seat: silence.idle_seat,
+        runs: u64::from(number_in(given, "runs", runs)?),
         is_logged: is_given(given, "log"),
     };
     let is_limited = listening.grace.is_some() || listening.idle.is_some();

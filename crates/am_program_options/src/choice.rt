@@ -73,6 +73,9 @@ pub struct Listening<'a> {
     /// After how many seconds without a line a session of a server that stays makes way for another, where all are
     /// taken and it has no transaction; 0 to 43,200, and 0 for never.
     pub idle_seat: u64,
+    /// Above how many runs with entries the workers of a server that stays merge in idle time what nobody asked for; 0
+    /// to 65,535, and 0 for never.
+    pub runs: u64,
     /// Whether a server that stays tells each minute, and at the end, how it does.
     pub is_logged: bool,
 }

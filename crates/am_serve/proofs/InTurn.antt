@@ -165,13 +165,14 @@ as_many_served most_runs most [] (y ∷ ys) h = absurd h
 as_many_served most_runs most (x ∷ xs) [] h = absurd h
 as_many_served most_runs most (x ∷ xs) (y ∷ ys) h = omega (arith, as_many_served most_runs most xs ys h.1)
 
-pub all_came_back : (lifetime : Lifetime) (most_runs most : ℕ) (session_seats served : List SessionSeatState)
+pub all_came_back : (lifetime : Lifetime) (runs most_runs most : ℕ) (session_seats served : List SessionSeatState)
     (worker_seats worked seats : List SeatState) → AllZip (HasServedInTurn most_runs most) session_seats served →
-    AllZip (HasWorked lifetime) worker_seats worked →
+    AllZip (HasWorked lifetime runs) worker_seats worked →
     session_seat_numbers session_seats ++ seat_numbers worker_seats ≡ seat_numbers seats →
     session_seat_numbers served ++ seat_numbers worked ≡ seat_numbers seats
-all_came_back lifetime most_runs most session_seats served worker_seats worked seats sat worked_on e =
-    (λ i. same_numbers most_runs most session_seats served sat i ++ same_worked lifetime worker_seats worked worked_on
+all_came_back lifetime runs most_runs most session_seats served worker_seats worked seats sat worked_on e =
+    (λ i. same_numbers most_runs most session_seats served sat i ++ same_worked lifetime runs worker_seats worked
+    worked_on
     i) ∙
     e
 

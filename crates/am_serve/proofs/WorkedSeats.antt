@@ -15,25 +15,26 @@ use Rattle.am_serve_connections.specs.Lifetimes.{most_turns, stays, upkeep_of}
 use Rattle.am_serve.specs.ServerTraces.{HasWorked, IsOfWorker}
 use Rattle.am_serve.specs.Versions.{most_runs_for}
 
-pub same_worked : (lifetime : Lifetime) (xs ys : List SeatState) → AllZip (HasWorked lifetime) xs ys →
+pub same_worked : (lifetime : Lifetime) (runs : ℕ) (xs ys : List SeatState) → AllZip (HasWorked lifetime runs) xs ys →
     seat_numbers ys ≡ seat_numbers xs
-same_worked lifetime [] [] h = refl
-same_worked lifetime [] (y ∷ ys) h = absurd h
-same_worked lifetime (x ∷ xs) [] h = absurd h
-same_worked lifetime (x ∷ xs) (y ∷ ys) h = λ i. h.0.number i ∷ same_worked lifetime xs ys h.1 i
+same_worked lifetime runs [] [] h = refl
+same_worked lifetime runs [] (y ∷ ys) h = absurd h
+same_worked lifetime runs (x ∷ xs) [] h = absurd h
+same_worked lifetime runs (x ∷ xs) (y ∷ ys) h = λ i. h.0.number i ∷ same_worked lifetime runs xs ys h.1 i
 
-pub all_of_workers : (lifetime : Lifetime) (xs ys : List SeatState) → AllZip (HasWorked lifetime) xs ys →
+pub all_of_workers : (lifetime : Lifetime) (runs : ℕ) (xs ys : List SeatState) → AllZip (HasWorked lifetime runs) xs
+    ys →
     All IsNewSeat xs →
-    All (IsOfWorker lifetime) ys
-all_of_workers lifetime [] [] h new = All-nil (IsOfWorker lifetime)
-all_of_workers lifetime [] (y ∷ ys) h new = absurd h
-all_of_workers lifetime (x ∷ xs) [] h new = absurd h
-all_of_workers lifetime (x ∷ xs) (y ∷ ys) h new =
-    All-cons (IsOfWorker lifetime) y ys
-    (subst (AreOfTurns (upkeep_of lifetime) 16 (most_turns lifetime))
+    All (IsOfWorker lifetime runs) ys
+all_of_workers lifetime runs [] [] h new = All-nil (IsOfWorker lifetime runs)
+all_of_workers lifetime runs [] (y ∷ ys) h new = absurd h
+all_of_workers lifetime runs (x ∷ xs) [] h new = absurd h
+all_of_workers lifetime runs (x ∷ xs) (y ∷ ys) h new =
+    All-cons (IsOfWorker lifetime runs) y ys
+    (subst (AreOfTurns (upkeep_of lifetime runs) 16 (most_turns lifetime))
     (sym (h.0.longer ∙ ap (λ (l : List Receipt). l ++ h.0.more) (all_first IsNewSeat x xs (x ∷ xs) refl new)))
     h.0.turns)
-    (all_of_workers lifetime xs ys h.1 (all_rest IsNewSeat x xs (x ∷ xs) refl new))
+    (all_of_workers lifetime runs xs ys h.1 (all_rest IsNewSeat x xs (x ∷ xs) refl new))
 
 -- a server that stays makes more runs than one that doesn't
 pub more_runs : (lifetime : Lifetime) (most_runs : ℕ) → most_runs ≡ most_runs_for lifetime → stays lifetime ≡ true →

@@ -68,13 +68,13 @@ pub record IsTraceOf (most_runs : ℕ) (seats : List SeatState) (trace : Trace) 
   pub committed : commits ≡ store.commits
   pub receipts : AreReceiptsOf seats trace
 
--- a worker had its turns there
-abbrev pub HasWorked : Lifetime → SeatState → SeatState → Type 0
-HasWorked lifetime s t = HasTakenTurns (upkeep_of lifetime) 16 (most_turns lifetime) s t
+-- a worker had its turns there, which leaves so many runs that nobody asks for
+abbrev pub HasWorked : Lifetime → ℕ → SeatState → SeatState → Type 0
+HasWorked lifetime runs s t = HasTakenTurns (upkeep_of lifetime runs) 16 (most_turns lifetime) s t
 
 -- a worker's turns were taken there, and nothing else
-abbrev pub IsOfWorker : Lifetime → SeatState → Type 0
-IsOfWorker lifetime s = AreOfTurns (upkeep_of lifetime) 16 (most_turns lifetime) s.receipts
+abbrev pub IsOfWorker : Lifetime → ℕ → SeatState → Type 0
+IsOfWorker lifetime runs s = AreOfTurns (upkeep_of lifetime runs) 16 (most_turns lifetime) s.receipts
 
 -- A trace was passed on from the first, in its order, and counted, and it is that of these seats (`IsTraceOf`: sound,
 -- legal, with so many commits, each receipt in it).
@@ -85,14 +85,14 @@ pub record HasStored {T : Type 0} (took : T → Trace → T → Type 0) (most_ru
   pub count : s.events ≡ add_count 0 (length trace)
   pub sound : IsTraceOf most_runs seats trace s.commits
 
--- and the seats are those of so many sessions at once and of so many workers; its store makes as many runs at most as
--- the version of its trace says
+-- and the seats are those of so many sessions at once and of so many workers, which leave so many runs that nobody asks
+-- for; its store makes as many runs at most as the version of its trace says
 pub record IsServerTrace {T : Type 0} (took : T → Trace → T → Type 0) (first : T) (lifetime : Lifetime)
-    (session_count worker_count : ℕ) (s : ServerTrace T) : Type 0 where
+    (runs session_count worker_count : ℕ) (s : ServerTrace T) : Type 0 where
   pub sessions : List SessionSeatState
   pub workers : List SeatState
   pub all_sessions : length sessions ≡ session_count
   pub all_workers : length workers ≡ worker_count
   pub served : All (IsOfSessions (most_runs_for lifetime) (most_sessions lifetime)) sessions
-  pub worked : All (IsOfWorker lifetime) workers
+  pub worked : All (IsOfWorker lifetime runs) workers
   pub stored : HasStored took (most_runs_for lifetime) first (latch_seats sessions ++ workers) s

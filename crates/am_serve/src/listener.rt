@@ -138,10 +138,10 @@ impl Listener {
 
     /// Serves connections over one store that begins with no records, until [`Listener::stop`], so many at once at each
     /// endpoint, each on a thread and a seat of its own, and lets so many workers merge beside them: one turn for each
-    /// answered line. A bounded server serves no more connections than there are seats, and one that stays any number,
-    /// one after another at each seat; further ones wait to be accepted. The trace is taken by pieces meanwhile, and
-    /// its rest at the end, once all sessions have ended. All pieces together are sound and legal, and their store has
-    /// so many commits.
+    /// answered line, and further ones while no line is answered, where more runs have entries than workers leave. A
+    /// bounded server serves no more connections than there are seats, and one that stays any number, one after another
+    /// at each seat; further ones wait to be accepted. The trace is taken by pieces meanwhile, and its rest at the end,
+    /// once all sessions have ended. All pieces together are sound and legal, and their store has so many commits.
     ///
     /// # Errors
     /// NoMemory, where memory was refused before a connection was accepted.
@@ -161,7 +161,7 @@ impl Listener {
     ) -> Result<ServerTrace<T>, NoMemory>
         requires sessions { (1 ≤ sessions) × (sessions ≤ 256) }
         requires workers { workers ≤ 16 }
-        ensures { IfOk result (IsServerTrace T.took setup.pieces lifetime
+        ensures { IfOk result (IsServerTrace T.took setup.pieces lifetime limits.runs
             (if is_some self.now.second then 2 * sessions else sessions) workers) }
     {
         let endpoints = self.endpoints();

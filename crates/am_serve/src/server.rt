@@ -43,9 +43,9 @@ fn let_work<L: LatchName + Send + Sync, R: Threads + Wait + Sync>(
     shared: &SharedState<'_>,
     worker_seats: Vec<Seat<L>>,
 ) -> WorkerSeats<L>
-    ensures { AllZip (HasWorked shared.now.lifetime) worker_seats.items result.seats.items }
+    ensures { AllZip (HasWorked shared.now.lifetime shared.now.runs) worker_seats.items result.seats.items }
 {
-    let upkeep = shared.lifetime.upkeep();
+    let upkeep = shared.lifetime.upkeep(shared.runs);
     let turns = shared.lifetime.turns();
     run_workers(
         rt,
@@ -67,7 +67,7 @@ fn work_beside<
 >(rt: &R, latch: &Latch<L>, shared: &SharedState<'_>, beside: Beside<L, T, V>) -> Beside<L, T, V>
     ensures taken { HasTaken T.took beside.drain.taker beside.drain.pieces beside.drain.events result.drain.taker
         result.drain.pieces result.drain.events }
-    ensures worked { AllZip (HasWorked shared.now.lifetime) beside.worker_seats.items
+    ensures worked { AllZip (HasWorked shared.now.lifetime shared.now.runs) beside.worker_seats.items
         result.worker_seats.items }
 {
     let Beside {
@@ -81,7 +81,7 @@ fn work_beside<
                 result.pieces result.events }
         { drain.run(rt, latch, shared) },
         || -> WorkerSeats<L>
-            ensures { AllZip (HasWorked shared.entry.now.lifetime) worker_seats.items
+            ensures { AllZip (HasWorked shared.entry.now.lifetime shared.entry.now.runs) worker_seats.items
                 result.seats.items }
         { let_work(rt, latch, shared, worker_seats) },
     );
@@ -192,8 +192,8 @@ pub(crate) fn run<
     requires counter_seats { All (λ h. h.of ≡ counters.now) counter_seats.items }
     requires few { length counter_seats.items ≤ L.seats }
     requires places { shared.now.connections ≡ length counter_seats.items }
-    ensures { IfOk result (IsServerTrace T.took setup.pieces shared.now.lifetime (length counter_seats.items)
-        (L.seats - length counter_seats.items)) }
+    ensures { IfOk result (IsServerTrace T.took setup.pieces shared.now.lifetime shared.now.runs
+        (length counter_seats.items) (L.seats - length counter_seats.items)) }
 {
     let Ok((latch, seats, taker)) = Latch::<L>::open(blank, hash) else {
         return Err(NoMemory);
@@ -221,8 +221,8 @@ pub(crate) fn run<
         || -> Beside<L, T, V>
             ensures taken { HasTaken T.took beside.drain.taker beside.drain.pieces beside.drain.events
                 result.drain.taker result.drain.pieces result.drain.events }
-            ensures worked { AllZip (HasWorked shared.entry.now.lifetime) beside.worker_seats.items
-                result.worker_seats.items }
+            ensures worked { AllZip (HasWorked shared.entry.now.lifetime shared.entry.now.runs)
+                beside.worker_seats.items result.worker_seats.items }
         { work_beside(rt, &latch, shared, beside) },
         || -> Vec<SessionSeat<'_, L>>
             requires { All HasNewSeat session_seats.items }

@@ -1,5 +1,6 @@
 -- What is done with what comes to an acceptor, and what a worker does that waits for its turn.
 use Rattle.std.specs.Prelude.{ℕ, ◌+◌, ◌/◌, min, zero, suc, nat_lt, Bool, true, false, not, ◌&&◌, ◌||◌, if◌then◌else◌}
+use Rattle.std.specs.Prelude.{Option, Some, None}
 use Rattle.am_serve_connections.specs.declared.lifetime.Lifetime.{Lifetime}
 use Rattle.am_serve_connections.specs.declared.lifetime.Lifetime.TheVariants.{Bounded, Staying}
 use Rattle.am_serve_connections.specs.declared.acceptor.Came.{Came}
@@ -7,6 +8,8 @@ use Rattle.am_serve_connections.specs.declared.acceptor.Came.TheVariants.{Connec
 use Rattle.am_serve_connections.specs.declared.acceptor.Deed.{Deed}
 use Rattle.am_serve_connections.specs.declared.pacer.Next.{Next}
 use Rattle.am_serve_connections.specs.declared.pacer.Next.TheVariants as next
+use Rattle.am_serve_connections.specs.declared.turns.Outlook.{Outlook}
+use Rattle.am_serve_connections.specs.declared.turns.Outlook.TheVariants.{Nothing, Asked, More, Held}
 use Rattle.am_serve_connections.specs.Lifetimes.{stays}
 use Rattle.am_serve_connections.specs.declared.acceptor.Deed.TheVariants.{Serve, TurnAway, TryAgain, End}
 
@@ -37,3 +40,11 @@ turns_for true before lines = if ends_round before lines then 1 else 0
 abbrev pub next_of : ℕ → ℕ → ℕ → Next
 next_of zero taken given = next.End
 next_of (suc sessions) taken given = if nat_lt taken given then next.Take else next.Sleep
+
+-- For how many milliseconds a worker lets answered lines give it its next turn before it takes one that none gave, by
+-- what it saw and whether no line was answered since a worker saw that. None where it waits for a line.
+abbrev pub pause_of : Outlook → Bool → Option ℕ
+pause_of Nothing is_quiet = None
+pause_of Asked is_quiet = None
+pause_of More is_quiet = Some (if is_quiet then 0 else 10)
+pause_of Held is_quiet = Some 100

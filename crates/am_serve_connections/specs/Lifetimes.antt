@@ -15,10 +15,10 @@ abbrev pub most_turns : Lifetime → ℕ
 most_turns Bounded = 1000000
 most_turns Staying = 18446744073709551615
 
--- whether a worker cleans where nothing is left to merge
-abbrev pub upkeep_of : Lifetime → Upkeep
-upkeep_of Bounded = MergeOnly
-upkeep_of Staying = MergeAndClean
+-- whether a worker cleans where nothing is left to merge, and above how many runs it merges what nobody asked for
+abbrev pub upkeep_of : Lifetime → ℕ → Upkeep
+upkeep_of Bounded runs = MergeOnly
+upkeep_of Staying runs = MergeAndClean runs
 
 -- whether it serves until it is stopped
 abbrev pub stays : Lifetime → Bool

@@ -7,8 +7,8 @@
 //! - [`Client`]: the connection of a session's client, what waits to be sent there, and how long one waits for it.
 //! - [`ClientBytes`], [`AnswerWriter`]: what comes from a client, and what goes there.
 //! - [`OwnLines`]: a connection whose bytes are passed on as far as they are lines of the protocol.
-//! - [`Pacer`], [`Upkeep`]: when a worker may take its next turn, and what it does then; [`MergePacer`] gives turns for
-//!   answers.
+//! - [`Pacer`], [`Upkeep`]: when a worker may take its next turn, and what it does then; [`Outlook`]: what it sees of
+//!   what is left to do; [`MergePacer`] gives turns for answers, and where none are asked for.
 //! - [`CountingSink`]: a sink of a session, whose answers let workers have turns.
 #![tactic(auto)]
 
@@ -48,6 +48,6 @@ pub use own_lines::OwnLines;
 pub use pacer::MergePacer;
 pub use session_counters::SessionCounts;
 pub use shared_state::{Endpoints, Limits, SharedState};
-pub use turns::{Pacer, Upkeep};
+pub use turns::{Outlook, Pacer, Upkeep};
 pub use turnstile::{HoldReply, Turnstile};
 pub use waiting::turn_away;

@@ -35,13 +35,13 @@ impl Lifetime {
         }
     }
 
-    /// What a worker does in its turns.
-    pub fn upkeep(self) -> Upkeep
-        ensures { result ≡ upkeep_of self }
+    /// What a worker does in its turns, where it leaves so many runs that nobody asks for, or all at 0.
+    pub fn upkeep(self, runs: u64) -> Upkeep
+        ensures { result ≡ upkeep_of self runs }
     {
         match self {
             Lifetime::Bounded => Upkeep::MergeOnly,
-            Lifetime::Staying => Upkeep::MergeAndClean,
+            Lifetime::Staying => Upkeep::MergeAndClean(runs),
         }
     }
 

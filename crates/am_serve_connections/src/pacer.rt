@@ -1,12 +1,19 @@
 //! When a worker may take a turn.
 
 ghost use Rattle.std.specs.Prelude.{◌≡◌, ◌+◌, min};
-ghost use Rattle.am_serve_connections.specs.Acceptors.{next_of, turns_for};
+ghost use Rattle.am_serve_connections.specs.Acceptors.{next_of, pause_of, turns_for};
 
 use crate::rounds::{Rounds, ends_round};
-use crate::turns::Pacer;
+use crate::turns::{Outlook, Pacer};
 use std::sync::Wait;
 use std::sync::atomic::{AtomicU64, Ordering};
+use std::time::Duration;
+
+/// For how many milliseconds no line was answered where workers go on unasked: sessions come first.
+const QUIET_MILLIS: u64 = 10;
+
+/// For how many milliseconds a worker leaves alone what it couldn't do.
+const HELD_MILLIS: u64 = 100;
 
 /// What a worker does next.
 #[derive(Clone, Copy, PartialEq, Eq)]
@@ -44,12 +51,25 @@ fn turns_for(are_resting: bool, before: u64, lines: u64) -> u64
     }
 }
 
+// For how long a worker waits for a line's turn that goes on unasked; none where it doesn't.
+fn pause_of(outlook: Outlook, is_quiet: bool) -> Option<u64>
+    ensures { result ≡ pause_of outlook is_quiet }
+{
+    match outlook {
+        Outlook::Nothing | Outlook::Asked => None,
+        Outlook::More if is_quiet => Some(0),
+        Outlook::More => Some(QUIET_MILLIS),
+        Outlook::Held => Some(HELD_MILLIS),
+    }
+}
+
 /// Lets workers have one turn for each answered line, until all sessions have ended. While nothing is to do it is one
-/// for each 1,024.
+/// for each 1,024. One that has more to do which nobody need ask for goes on while no line is answered.
 #[derive(Drop)]
 pub struct MergePacer {
-    // How many lines were answered.
+    // How many lines were answered, and how many were where a worker last saw what is to do.
     answered: AtomicU64,
+    heard: AtomicU64,
     // The turns that workers may have, and those that they had. Both only rise, so that a worker which sleeps at one
     // value of the first misses no later one.
     given: AtomicU64,
@@ -69,6 +89,7 @@ impl MergePacer {
     pub(crate) fn new(sessions: u64) -> MergePacer {
         MergePacer {
             answered: AtomicU64::new(0),
+            heard: AtomicU64::new(0),
             given: AtomicU64::new(0),
             taken: AtomicU64::new(0),
             sessions: AtomicU64::new(sessions),
@@ -128,6 +149,39 @@ impl MergePacer {
         self.sleeping.fetch_add(1, Ordering::SeqCst);
         self.given.park(rt, (given % (1 << 32)) as u32);
         self.sleeping.fetch_sub(1, Ordering::SeqCst);
+    }
+
+    // The same, but for so many milliseconds at most.
+    fn nap<R: Wait>(&self, rt: &R, given: u64, millis: u64) {
+        self.sleeping.fetch_add(1, Ordering::SeqCst);
+        self.given.park_timeout(
+            rt,
+            (given % (1 << 32)) as u32,
+            Duration::from_millis(millis),
+        );
+        self.sleeping.fetch_sub(1, Ordering::SeqCst);
+    }
+
+    // Gives a turn that no line gave, unless lines give one within so many milliseconds. Of workers that wait so one
+    // alone has it: they would only take the latch from one another.
+    fn go_on<R: Wait>(&self, rt: &R, millis: u64) {
+        let given = self.given.load(Ordering::SeqCst);
+        if self.taken.load(Ordering::SeqCst) < given {
+            return;
+        }
+        if millis > 0 {
+            self.nap(rt, given, millis);
+        }
+        let next = given.wrapping_add(1);
+        let _ = self
+            .given
+            .compare_exchange(given, next, Ordering::SeqCst, Ordering::SeqCst);
+    }
+
+    // Whether no line was answered since a worker last saw what is to do.
+    fn is_quiet(&self) -> bool {
+        let answered = self.answered.load(Ordering::SeqCst);
+        self.heard.swap(answered, Ordering::SeqCst) == answered
     }
 
     // Takes the turn after `taken`, unless another worker has it. What turns leave in the trace is small too.
@@ -191,11 +245,14 @@ impl Pacer for MergePacer {
         self.work.load(Ordering::SeqCst)
     }
 
-    fn note(&self, work: u64, has_work: bool) {
-        if !has_work {
+    fn note<R: Wait>(&self, rt: &R, work: u64, outlook: Outlook) {
+        if outlook == Outlook::Nothing {
             self.rest(work);
         } else if self.are_resting() {
             self.add_work();
+        }
+        if let Some(millis) = pause_of(outlook, self.is_quiet()) {
+            self.go_on(rt, millis);
         }
     }
 }

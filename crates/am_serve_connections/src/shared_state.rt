@@ -38,7 +38,7 @@ impl<'a> Endpoints<'a> {
     }
 }
 
-/// What a session may take of a server's time.
+/// What a session may take of a server's time, and how many runs workers leave.
 #[derive(Clone, Copy)]
 pub struct Limits {
     /// How long a session may be idle, where that is limited.
@@ -49,6 +49,8 @@ pub struct Limits {
     pub idle_seat: Option<Duration>,
     /// For how many milliseconds at most a session may hold.
     pub hold: u64,
+    /// Above how many runs workers merge what nobody asked for; never, where it is 0.
+    pub runs: u64,
 }
 
 /// What the threads of a server share, but for its store.
@@ -74,6 +76,8 @@ pub struct SharedState<'a> {
     pub lapse: Option<Duration>,
     /// How long a session without a transaction may be idle while others want its seat, where that is limited.
     pub idle_seat: Option<Duration>,
+    /// Above how many runs workers merge what nobody asked for; never, where it is 0.
+    pub runs: u64,
     is_stopped: &'a AtomicBool,
     all_ended: AtomicBool,
 }
@@ -124,6 +128,7 @@ impl<'a> SharedState<'a> {
         ensures idle { IfOk result (λ shared. shared.idle ≡ limits.idle) }
         ensures lapse { IfOk result (λ shared. shared.lapse ≡ limits.lapse) }
         ensures idle_seat { IfOk result (λ shared. shared.idle_seat ≡ limits.idle_seat) }
+        ensures runs { IfOk result (λ shared. shared.runs ≡ limits.runs) }
         ensures hold { IfOk result (λ shared. shared.turnstile ≡ limits.hold) }
         ensures seats { IfOk result (λ shared. shared.seats ≡ sessions) }
         ensures places { IfOk result (λ shared. shared.connections ≡
@@ -149,6 +154,7 @@ impl<'a> SharedState<'a> {
             idle: limits.idle,
             lapse: limits.lapse,
             idle_seat: limits.idle_seat,
+            runs: limits.runs,
             is_stopped,
             all_ended: AtomicBool::new(false),
         })

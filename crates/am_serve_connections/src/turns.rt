@@ -11,9 +11,22 @@ pub trait Pacer {
     /// How often more to do has come.
     fn work(&self) -> u64;
 
-    /// In a turn before which more to do had come so often a worker saw whether something is to do. Where nothing is,
-    /// no turn is of use until more comes.
-    fn note(&self, work: u64, has_work: bool);
+    /// In a turn before which more to do had come so often a worker saw what is left to do. Where nothing is, no turn
+    /// is of use until more comes. Where more is that nobody need ask for, this returns once the worker may go on.
+    fn note<R: Wait>(&self, rt: &R, work: u64, outlook: Outlook);
+}
+
+/// What a worker saw in a turn of what is left to do.
+#[derive(Clone, Copy, PartialEq, Eq)]
+pub enum Outlook {
+    /// Nothing, before a run is loaded.
+    Nothing,
+    /// What may be asked for.
+    Asked,
+    /// More, whether it is asked for or not.
+    More,
+    /// The same, but nothing of it could be done just now.
+    Held,
 }
 
 /// What a worker does in its turns.
@@ -21,6 +34,7 @@ pub trait Pacer {
 pub enum Upkeep {
     /// It merges.
     MergeOnly,
-    /// It merges, and cleans where nothing is left to merge.
-    MergeAndClean,
+    /// It merges. Where nothing is left to merge it cleans, and where more runs than so many have entries it has some
+    /// of these merged that nobody asked for; never, where that is 0.
+    MergeAndClean(u64),
 }

@@ -21,7 +21,9 @@ pub struct WorkerSeats<L: LatchName> {
 /// Lets each seat take at most so many turns, in a thread of its own, and returns when all have ended. In each turn
 /// the worker waits for the pacer, and then calls `Merge(limit)` once. Where that is answered Idle, a worker that
 /// cleans calls `Clean` once, of at most 64 ghosts, and goes on from where it cleaned last. It does so where at least
-/// one entry of 1,024 is a ghost: for fewer a turn would walk a large index for little.
+/// one entry of 1,024 is a ghost: for fewer a turn would walk a large index for little. Where more runs have entries
+/// than it leaves, it then reads one record of a range in a transaction of its own, so that the range is merged next,
+/// and goes on from there. The steps of that transaction stand in the trace one right after another.
 ///
 /// A worker lets the receipts of former turns go, so its seat isn't full before 10^13 turns. It ends after its turns,
 /// where the pacer answers false, and where its seat is full; a turn that is refused memory is used up.

@@ -122,7 +122,15 @@ fn by_two_workers<L: LatchName + Send + Sync, R: Threads + Wait + Abort + Sync>(
     leave_ghosts(rt, alloc, shared, &mut writer)?;
     let (worked, read) = thread::join(
         rt,
-        move || run_workers(rt, shared, seats, 100, 16, Upkeep::MergeAndClean, &Always),
+        move || run_workers(
+            rt,
+            shared,
+            seats,
+            100,
+            16,
+            Upkeep::MergeAndClean(0),
+            &Always,
+        ),
         move || read_often(rt, shared, reader),
     );
     let reader = read?;
@@ -133,7 +141,7 @@ fn by_two_workers<L: LatchName + Send + Sync, R: Threads + Wait + Abort + Sync>(
         worked.seats,
         100,
         16,
-        Upkeep::MergeAndClean,
+        Upkeep::MergeAndClean(0),
         &Always,
     );
     assert_eq!(rt; counts(rt, shared, &mut writer), (LIVE, 0, 0));
@@ -170,10 +178,10 @@ fn beside_a_locked_ghost<L: LatchName + Send + Sync, R: Threads + Wait + Abort +
     load(rt, alloc, &latch, &mut loader, 1, 3)?;
     abort(rt, &latch, &mut loader);
     assert_eq!(rt; counts(rt, &latch, &mut loader), (4, 4, 1));
-    let worker = work(rt, alloc, &latch, worker, Upkeep::MergeAndClean)?;
+    let worker = work(rt, alloc, &latch, worker, Upkeep::MergeAndClean(0))?;
     assert_eq!(rt; counts(rt, &latch, &mut loader), (1, 1, 0));
     commit(rt, &latch, &mut deleter);
-    work(rt, alloc, &latch, worker, Upkeep::MergeAndClean)?;
+    work(rt, alloc, &latch, worker, Upkeep::MergeAndClean(0))?;
     assert_eq!(rt; counts(rt, &latch, &mut loader), (0, 0, 0));
     Ok(())
 }
@@ -224,11 +232,11 @@ fn among_many_records<L: LatchName + Send + Sync, R: Threads + Wait + Abort + Sy
     load(rt, alloc, &latch, &mut writer, 0, 1_100)?;
     delete(rt, &latch, &mut writer, 500);
     commit(rt, &latch, &mut writer);
-    let worker = work(rt, alloc, &latch, worker, Upkeep::MergeAndClean)?;
+    let worker = work(rt, alloc, &latch, worker, Upkeep::MergeAndClean(0))?;
     assert_eq!(rt; counts(rt, &latch, &mut writer), (1_100, 1, 1));
     delete(rt, &latch, &mut writer, 501);
     commit(rt, &latch, &mut writer);
-    let worker = work(rt, alloc, &latch, worker, Upkeep::MergeAndClean)?;
+    let worker = work(rt, alloc, &latch, worker, Upkeep::MergeAndClean(0))?;
     assert_eq!(rt; counts(rt, &latch, &mut writer), (1_098, 0, 1));
     let Ok(closed) = close(latch, vec![in alloc; writer, worker]?, taker) else {
         panic!(rt; "all seats are there")

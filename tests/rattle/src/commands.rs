@@ -18,6 +18,7 @@ const DEFAULTS: Listening<'static> = Listening {
     idle: None,
     lapse: 0,
     idle_seat: 0,
+    runs: 0,
     is_logged: false,
 };
 
@@ -33,6 +34,7 @@ const MOST: Listening<'static> = Listening {
     idle: None,
     lapse: 0,
     idle_seat: 0,
+    runs: 0,
     is_logged: false,
 };
 
@@ -57,6 +59,7 @@ const STAYING: Listening<'static> = Listening {
     idle: Some(43_200),
     lapse: 60,
     idle_seat: 60,
+    runs: 64,
     is_logged: true,
     ..DEFAULTS
 };
@@ -65,10 +68,20 @@ const NEVER_LAPSING: Listening<'static> = Listening {
     sessions: 64,
     stays: true,
     idle_seat: 43_200,
+    runs: 64,
     ..DEFAULTS
 };
 
-const ASKED: [Asked<'static>; 37] = [
+const EVERY_RUN: Listening<'static> = Listening {
+    sessions: 64,
+    stays: true,
+    lapse: 60,
+    idle_seat: 60,
+    runs: 65_535,
+    ..DEFAULTS
+};
+
+const ASKED: [Asked<'static>; 41] = [
     (&["amserve", "alone"], Ok(Options::Alone { auto: 16 })),
     (
         &["amserve", "alone", "--auto", "0"],
@@ -148,6 +161,23 @@ const ASKED: [Asked<'static>; 37] = [
         ],
         Err(2),
     ),
+    (
+        &[
+            "amserve", "listen", "--port", "0", "--stay", "--runs", "65535",
+        ],
+        Ok(Options::Listen(EVERY_RUN)),
+    ),
+    (
+        &[
+            "amserve", "listen", "--port", "0", "--stay", "--runs", "65536",
+        ],
+        Err(2),
+    ),
+    (
+        &["amserve", "listen", "--port", "0", "--runs", "0"],
+        Ok(Options::Listen(DEFAULTS)),
+    ),
+    (&["amserve", "listen", "--port", "0", "--runs", "1"], Err(2)),
     (
         &["amserve", "listen", "--port", "0", "--idle-seat", "0"],
         Ok(Options::Listen(DEFAULTS)),

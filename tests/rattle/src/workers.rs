@@ -4,7 +4,7 @@ use am_latch::{Blank, Latch, LatchName, Seat, close};
 use am_record::{
     HashKey, Key, Lock, MAX_RUNS, Mode, Op, Range, Records, Refusal, Reply, Step, Value,
 };
-use am_serve_connections::{Pacer, Upkeep};
+use am_serve_connections::{Outlook, Pacer, Upkeep};
 use am_serve_workers::run_workers;
 use std::alloc::Global;
 use std::marker::Brand;
@@ -56,7 +56,7 @@ impl<'a, C: Clock> Pacer for Meeting<'a, C> {
         0
     }
 
-    fn note(&self, _work: u64, _has_work: bool) {}
+    fn note<R: Wait>(&self, _rt: &R, _work: u64, _outlook: Outlook) {}
 }
 
 // The receipts of a seat, those that it let go among them.
@@ -98,7 +98,7 @@ impl Pacer for Always {
         0
     }
 
-    fn note(&self, _work: u64, _has_work: bool) {}
+    fn note<R: Wait>(&self, _rt: &R, _work: u64, _outlook: Outlook) {}
 }
 
 pub(crate) fn begin<L: LatchName, R: Wait>(rt: &R, latch: &Latch<L>, seat: &mut Seat<L>) {
@@ -277,5 +277,46 @@ fn workers_go_on_behind_a_lock(rt: HostRuntime) -> Result<(), Fail> {
     let blank = Blank::new(rt.alloc(), 2, MAX_RUNS)?;
     let moved = behind_a_locked_record::<Brand, HostRuntime>(&rt, rt.alloc(), blank)?;
     assert_eq!(rt; moved, 1);
+    Ok(())
+}
+
+// Turns of a worker over three runs that nobody asked for, of which it leaves so many. How many entries it moved, and
+// whether each of its scans stands between its Begin and its Commit.
+fn unasked<L: LatchName + Send + Sync, R: Threads + Wait + Abort + Sync>(
+    rt: &R,
+    alloc: Global,
+    blank: Blank,
+    runs: u64,
+) -> Result<u64, Fail> {
+    let (latch, mut seats, taker) = Latch::<L>::open(blank, HashKey::known())?;
+    let worker = seats.pop().ok_or("no seat")?;
+    let mut loader = seats.pop().ok_or("no seat")?;
+    load_three(rt, alloc, &latch, &mut loader)?;
+    let workers = vec![in alloc; worker]?;
+    let upkeep = Upkeep::MergeAndClean(runs);
+    let mut worked = run_workers(rt, &latch, workers, 20, 16, upkeep, &Always);
+    let worker = worked.seats.pop().ok_or("no seat")?;
+    let Ok(closed) = close(latch, vec![in alloc; loader, worker]?, taker) else {
+        panic!(rt; "all seats are there")
+    };
+    for place in 0..closed.trace.len() {
+        if let Step::Do(tx, Op::Scan(_, max)) = &closed.trace[place].0 {
+            assert_eq!(rt; *max, 1);
+            assert!(rt; closed.trace[place.saturating_sub(1)].0 == Step::Begin);
+            assert!(rt; closed.trace[place.saturating_add(1)].0 == Step::Commit(*tx));
+        }
+    }
+    Ok(worked.moved)
+}
+
+#[test]
+fn what_nobody_asked_for(rt: HostRuntime) -> Result<(), Fail> {
+    for (runs, moved) in [(0, 0), (2, 3), (3, 0)] {
+        let blank = Blank::new(rt.alloc(), 2, MAX_RUNS)?;
+        assert_eq!(rt;
+            unasked::<Brand, HostRuntime>(&rt, rt.alloc(), blank, runs)?,
+            moved
+        );
+    }
     Ok(())
 }

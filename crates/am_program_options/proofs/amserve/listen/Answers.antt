@@ -18,6 +18,8 @@ returns c =
     c.number-4.ensures c.in_ok-arg-6.ensures in
     let with_idle_seat = arg_added c.in_ok-arg-6.field-0 c.in_ok-arg-7.field-0 c.number-5.result _ _ with_lapse
     c.number-5.ensures c.in_ok-arg-7.ensures in
-    IfOk-weaker c.arg-8.result _ _
-    (λ command adds. arg_added c.in_ok-arg-7.field-0 command c.flag-3.result _ _ with_idle_seat c.flag-3.ensures adds)
-    c.arg-8.ensures
+    let with_runs = arg_added c.in_ok-arg-7.field-0 c.in_ok-arg-8.field-0 c.number-6.result _ _ with_idle_seat
+    c.number-6.ensures c.in_ok-arg-8.ensures in
+    IfOk-weaker c.arg-9.result _ _
+    (λ command adds. arg_added c.in_ok-arg-8.field-0 command c.flag-3.result _ _ with_runs c.flag-3.ensures adds)
+    c.arg-9.ensures

@@ -9,7 +9,8 @@ pub returns : goal.returns
 returns g c =
     let before = c.args.worker_seats.items in
     let after = c.run_workers.result.seats.items in
-    subst (λ (n : ℕ). AllZip (HasTakenTurns (upkeep_of c.args.shared.now.lifetime) 16 n) before after)
+    subst (λ (n : ℕ). AllZip (HasTakenTurns (upkeep_of c.args.shared.now.lifetime c.args.shared.now.runs) 16 n) before
+    after)
     c.turns-turns.ensures
     (subst (λ (u : Upkeep). AllZip (HasTakenTurns u 16 c.turns-turns.result) before after) c.upkeep-upkeep.ensures
     c.run_workers.ensures.turned)

@@ -43,7 +43,7 @@ assign_seats-requires-clause-few g c = omega (
 
 pub take_seats-requires : goal.take_seats-requires
 take_seats-requires g c =
-    let back = all_came_back c.args.shared.now.lifetime g.L.LatchName.most_runs
+    let back = all_came_back c.args.shared.now.lifetime c.args.shared.now.runs g.L.LatchName.most_runs
     (most_sessions c.args.shared.now.lifetime)
     c.in_ok-session_seats.session_seats.items c.join-beside.result.1.items
     c.in_ok-session_seats.worker_seats.items c.join-beside.result.0.worker_seats.items c.in-Ok.seats.items
@@ -54,7 +54,7 @@ take_seats-requires g c =
 
 pub unreachable-requires : goal.unreachable-requires
 unreachable-requires g c =
-    let back = all_came_back c.args.shared.now.lifetime g.L.LatchName.most_runs
+    let back = all_came_back c.args.shared.now.lifetime c.args.shared.now.runs g.L.LatchName.most_runs
     (most_sessions c.args.shared.now.lifetime)
     c.in_ok-session_seats.session_seats.items c.join-beside.result.1.items
     c.in_ok-session_seats.worker_seats.items c.join-beside.result.0.worker_seats.items c.in-Ok.seats.items
@@ -76,7 +76,7 @@ unreachable-requires g c =
 
 pub close_all-requires : goal.close_all-requires
 close_all-requires g c =
-    let back = all_came_back c.args.shared.now.lifetime g.L.LatchName.most_runs
+    let back = all_came_back c.args.shared.now.lifetime c.args.shared.now.runs g.L.LatchName.most_runs
     (most_sessions c.args.shared.now.lifetime)
     c.in_ok-session_seats.session_seats.items c.join-beside.result.1.items
     c.in_ok-session_seats.worker_seats.items c.join-beside.result.0.worker_seats.items c.in-Ok.seats.items
@@ -90,7 +90,7 @@ pub returns : goal.returns
 returns g c =
     let served = c.join-beside.result.1.items in
     let worked = c.join-beside.result.0.worker_seats.items in
-    let back = all_came_back c.args.shared.now.lifetime g.L.LatchName.most_runs
+    let back = all_came_back c.args.shared.now.lifetime c.args.shared.now.runs g.L.LatchName.most_runs
     (most_sessions c.args.shared.now.lifetime)
     c.in_ok-session_seats.session_seats.items served c.in_ok-session_seats.worker_seats.items worked c.in-Ok.seats.items
     c.join-beside.ensures.second c.join-beside.ensures.first.1 c.in_ok-session_seats.ensures.seats in
@@ -118,7 +118,8 @@ returns g c =
           (all_of_turns g.L.LatchName.most_runs (most_sessions c.args.shared.now.lifetime)
           c.in_ok-session_seats.session_seats.items served c.join-beside.ensures.second
           c.in_ok-session_seats.ensures.sessions);
-      worked = all_of_workers c.args.shared.now.lifetime c.in_ok-session_seats.worker_seats.items worked
+      worked = all_of_workers c.args.shared.now.lifetime c.args.shared.now.runs c.in_ok-session_seats.worker_seats.items
+          worked
           c.join-beside.ensures.first.1
           c.in_ok-session_seats.ensures.workers;
       stored = subst (λ (p : ℕ × List SeatState).

@@ -3,7 +3,10 @@ use Rattle.am_serve_workers.proofs.Gains.{unturned, turned_on, at_most, one_take
 use Rattle.am_serve_workers.proofs.turns.take_turns.Goals as goal
 
 pub loop-turn-init : goal.loop-turn-init
-loop-turn-init g c = record { turned = unturned _ _ _ _; on = (c.front_of-place.ensures, refl) }
+loop-turn-init g c = record {
+  turned = unturned _ _ _ _;
+  on = ((λ i. record { clean = c.front_of.ensures i; read = c.front.ensures i }), refl);
+}
 
 pub loop-turn-preserved : goal.loop-turn-preserved
 loop-turn-preserved g c =
