@@ -427,8 +427,30 @@ def full_sessions() -> None:
     wanted("what was tried", odd.lines.count(b"BEGIN"), 2)
 
 
+def fails_over() -> None:
+    """Several places, as those of replicas: where one can't be reached or goes away, the next transaction begins at the one behind it."""
+    servers = [Server("--stay", "--stop", "--grace", "0") for _ in range(2)]
+    refused = socket.create_server(("127.0.0.1", 0))
+    ports: List[Any] = [refused.getsockname()[1], ("localhost", servers[0].port), servers[1].port]
+    refused.close()
+    with tiuvrokk.connect(port=ports) as client:
+        client["a"] = "1"
+        wanted("where it is", f"at port {servers[0].port} of localhost" in repr(client), True)
+        servers[0].tell("STOP\n")
+        servers[0].closed()
+        wanted("what the other has", client.get("a"), None)
+        client["a"] = "2"
+        wanted("where it goes on", f"at port {servers[1].port}>" in repr(client), True)
+        servers[1].tell("STOP\n")
+        servers[1].closed()
+        raised(OSError, lambda: client.get("a"))
+    raised(OSError, lambda: tiuvrokk.connect(port=ports))
+    raised(ValueError, lambda: tiuvrokk.connect(port=[]))
+
+
 def all_clients(folder: str) -> None:
     """All of it."""
     odd_answers()
     full_sessions()
+    fails_over()
     served(folder)

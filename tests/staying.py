@@ -130,6 +130,25 @@ def workers_that_rest(trace: str) -> None:
     stopped(server)
 
 
+def reads_in_idle_time(steps: List[List[str]]) -> None:
+    """A worker's read, of one row, has its steps one right after another; and of a session that read, of 100 rows, what that read is
+    merged before a worker reads twice."""
+    verbs, reads, asked = [step.split()[0] for step, _ in steps], 0, False
+    for place, (step, answer) in enumerate(steps):
+        around = verbs[place - 1 : place + 2]
+        if step.startswith("SCAN") and step.endswith(" 100"):
+            reads, asked = 0, True
+        elif step.startswith("SCAN"):
+            reads += 1
+            if around not in (["BEGIN", "SCAN", "COMMIT"], ["BEGIN", "SCAN", "ABORT"]):
+                fail(f"a worker's read in pieces: {around}")
+            if asked and reads > 1:
+                fail(f"a session's read waits for a worker's second one, in line {place + 2}")
+        elif answer == "IDLE":
+            asked = False
+    wanted("what workers read", any(step.startswith("SCAN") and step.endswith(" 1") for step, _ in steps), True)
+
+
 def merged_unasked(trace: str) -> None:
     """Runs that nobody reads are merged once their loads have ended, but for 64 and what came in between; a scan is answered soon, and
     what a session asks for meanwhile is merged next."""
@@ -144,6 +163,9 @@ def merged_unasked(trace: str) -> None:
             lines += ["COMMIT", "BEGIN"]
         lines.append("LOAD " + " ".join(f"{key:07}=v" for key in sorted(keys[load * 64 : load * 64 + 64])))
     wanted("loads", {answer.split()[0] for answer in client.ask_at_once([*lines, "COMMIT"])}, {"BEGUN", "OK", "COMMITTED"})
+    for number in range(20):
+        client.ask_all(["BEGIN", f"SCAN {number:02}00000 {number:02}01000 100", "COMMIT"])
+        time.sleep(0.02)
     await_rest(server)
     begun = time.monotonic()
     wanted("a scan", len(client.ask_all(["BEGIN", "SCAN 0100000 0200000 100", "COMMIT"])[1].split()), 102)
@@ -155,12 +177,7 @@ def merged_unasked(trace: str) -> None:
         fail(f"{told['runs']} runs are left that nobody asked for")
     wanted("audit", audit(trace).split()[0], "LEGAL")
     with open(trace, encoding="ascii") as file:
-        steps = [line.split(" | ")[0].split() for line in file]
-    # (the session asks for 100 rows, and a worker for one)
-    for place, step in enumerate(steps):
-        verbs = [other[0] for other in steps[place - 1 : place + 2]]
-        if step[0] == "SCAN" and step[-1] == "1" and verbs not in (["BEGIN", "SCAN", "COMMIT"], ["BEGIN", "SCAN", "ABORT"]):
-            fail(f"a worker's read in pieces: {verbs}")
+        reads_in_idle_time([line.rstrip("\n").split(" | ") for line in file if " | " in line])
     server = stay("--sessions", "1", "--workers", "1", "--runs", "0", "--log")
     client = Client(server.port)
     client.ask_all(["BEGIN", *(f"LOAD {key:03}=v" for key in range(200)), "COMMIT"])
