@@ -2,7 +2,7 @@
 //!
 //!     PKG_CONFIG_PATH=PREFIX/lib/pkgconfig cargo run --manifest-path rust/Cargo.toml --example embed
 
-use tiuvrokk::{Error, Layout, LoadError, Merge, Store, Transaction};
+use tiuvrokk::{Error, Layout, LoadError, Store, Transaction};
 
 const SENSORS: u32 = 100;
 const BATCHES: u32 = 100;
