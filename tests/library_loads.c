@@ -91,8 +91,9 @@ static void load_without_end(void) {
     }
 }
 
-/* One run more is refused, and accepted once the others are merged. */
+/* Where commits merge nothing, one run more is refused, and accepted once the others are merged. */
 static void fill_the_runs(void) {
+    tvk_upkeep(0);
     for (int i = 0; i < TVK_MAX_RUNS; i++) {
         uint64_t tx = begin();
         tvk_status got = load(tx, LOADS + 2 * i);
