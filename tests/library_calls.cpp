@@ -185,7 +185,7 @@ static void loads_and_scans() {
     auto seen = reader.scan();
     expect(std::distance(seen.begin(), seen.end()) == 2999, "a scan of what was committed");
     reader.commit();
-    std::uint64_t merged = 0;
+    std::uint64_t merged = store.figures().in_final;
     while (auto step = store.merge()) merged += *step;
     expect(merged >= 2999, "a merge of all");
     tvk_figures_t figures = store.figures();
@@ -193,6 +193,7 @@ static void loads_and_scans() {
     expect(figures.entries - figures.ghosts == 2999, "the records beside ghosts");
     while (store.clean()) continue;
     expect(store.entries() == 2999, "a clean");
+    expect(!store.tidy(), "nothing is left to do");
 }
 
 static void loads_in_any_order() {
