@@ -164,6 +164,7 @@ fn the_first_seats_are_the_sessions(rt: HostRuntime) -> Result<(), Fail> {
         lapse: None,
         idle_seat: None,
         hold: 0,
+        runs: 0,
     };
     let is_stopped = AtomicBool::new(false);
     let shared = SharedState::new(

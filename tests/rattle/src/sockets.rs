@@ -49,6 +49,7 @@ const UNLIMITED: Limits = Limits {
     lapse: None,
     idle_seat: None,
     hold: 0,
+    runs: 0,
 };
 
 fn nobody_looks() -> DrainSetup<LetGo, Unwatched> {
