@@ -31,7 +31,7 @@ def help_of(*words: str) -> str:
 
 def options_of_help(text: str) -> Set[str]:
     """The long options, each at the head of a line of its own."""
-    return set(re.findall(r"(?m)^ {2,8}(?:-\w, )?(--[a-z-]+)", text))
+    return set(re.findall(r"(?m)^ {2,8}(?:-\w(?: [A-Z]+)?, )?(--[a-z-]+)", text))
 
 
 def options_of_manual(text: str) -> Set[str]:
