@@ -52,7 +52,7 @@ def from_an_archive(folder: str) -> None:
     sys.path.insert(0, f"{TOP}/tools")
     import tree
 
-    top = os.path.join(folder, "archive")
+    top = os.path.join(folder, "tree")
     for name in tree.kept_files():
         os.makedirs(os.path.dirname(f"{top}/{name}"), exist_ok=True)
         shutil.copy(f"{TOP}/{name}", f"{top}/{name}")
