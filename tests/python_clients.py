@@ -446,6 +446,8 @@ def fails_over() -> None:
         raised(OSError, lambda: client.get("a"))
     raised(OSError, lambda: tiuvrokk.connect(port=ports))
     raised(ValueError, lambda: tiuvrokk.connect(port=[]))
+    several: Any = (7001, 7002)
+    raised(TypeError, lambda: tiuvrokk.connect(port=several))
 
 
 def all_clients(folder: str) -> None:

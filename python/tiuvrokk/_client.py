@@ -76,14 +76,12 @@ class Client(Runner["RemoteTransaction"]):
 
     def _connected(self) -> Wire:
         """A connection to the first place that has one, and those behind it come next: what was tried before goes to the end."""
-        for others in reversed(range(len(self._places))):
+        for _ in self._places[1:]:
             try:
                 return self._connected_to(self._places[0])
             except (OSError, Refused):
-                if not others:
-                    raise
                 self._pass_over()
-        raise AssertionError
+        return self._connected_to(self._places[0])
 
     def _pass_over(self) -> None:
         self._places = [*self._places[1:], self._places[0]]

@@ -21,6 +21,8 @@ class Place:
     def __init__(self, port: Optional[Port] = None, path: Optional[Path] = None, host: str = "127.0.0.1") -> None:
         self.path = path
         self.host, self.port = port if isinstance(port, tuple) else (host, index(port or 0))
+        if not isinstance(self.host, str):
+            raise TypeError("a port is a number, or a host with a number; several are a list")
 
     def __str__(self) -> str:
         if self.path is not None:
