@@ -1,8 +1,9 @@
 -- What each call of the catalog leaves.
-use Rattle.std.proofs.Common.{◌≡◌, ◌≢◌, ℕ, zero, suc, ◌+◌, ◌<◌, ◌≤◌, Bool, List, [], ◌∷◌, length, get_or}
-use Rattle.std.proofs.Common.{set, drop, Result, Ok, Err, refl, sym, ap, ◌∙◌, subst, ⊎_elim, arith}
-use Rattle.std.specs.Prelude.{IsSome, OnOk, OnErr, nat_lt}
-use Rattle.std.proofs.lemmas.Bool.{cases_lt, ltb-true, lt-ltb}
+use Rattle.std.proofs.Common.{◌≡◌, ◌≢◌, ℕ, zero, suc, ◌+◌, ◌<◌, ◌≤◌, Bool, true, false, List, [], ◌∷◌, length, get_or}
+use Rattle.std.proofs.Common.{set, take, drop, Result, Ok, Err, refl, sym, ap, ◌∙◌, subst, ⊎_elim, arith}
+use Rattle.std.specs.Prelude.{IsSome, OnOk, OnErr, IfOk, IfErr, nat_lt}
+use Rattle.std.specs.Result.{is_ok}
+use Rattle.std.proofs.lemmas.Bool.{cases_lt, ltb-true, lt-ltb, false_from_ne_true}
 use Rattle.std.proofs.lemmas.List.{get_or_default}
 use Rattle.std.specs.List.{AllByRecursion}
 use Rattle.std.specs.List.Sorted.{IsPartitionedBy}
@@ -10,8 +11,8 @@ use Rattle.am_record.specs.OrderedKey.{OrderedKey}
 use Rattle.am_record.specs.declared.entry.Entry.{Entry}
 use Rattle.am_index.specs.Entries.{find, insert_entry, remove_entry}
 use Rattle.am_index_parts.specs.declared.catalog.OpenRun.{OpenRun}
-use Rattle.am_index_parts.specs.Catalogs.{parts_of, PartsRise, AreListed, IsRunAt, HasMore}
-use Rattle.am_index_parts.proofs.ListedRuns.{run_more, run_less, below_at}
+use Rattle.am_index_parts.specs.Catalogs.{parts_of, PartsRise, is_one_of, AreListed, IsRunAt, IsGapAt, HasMore}
+use Rattle.am_index_parts.proofs.ListedRuns.{run_more, run_less, below_at, one_at, not_one}
 
 -- ---- the search
 
@@ -91,3 +92,26 @@ ok_map (Err e) f a = tt
 pub err_map : {T E : Type 0} {A B : Type 0} (r : Result T E) → (A → B) → OnErr r A → OnErr r B
 err_map (Ok v) f a = tt
 err_map (Err e) f a = f a
+
+-- ---- whether a run is listed
+
+others_apart : (part : ℕ) (rs : List OpenRun) (i : ℕ) → AllByRecursion (λ (r : OpenRun). r.part < part) (take i rs) →
+    AllByRecursion (λ (r : OpenRun). part < r.part) (drop i rs) → AllByRecursion (λ (r : OpenRun). r.part ≢ part) rs
+others_apart part [] i below above = tt
+others_apart part (r ∷ rs) zero below above = (
+  (λ same. let lt : part < r.part = above.0 in absurd (omega (arith, same, lt))),
+  others_apart part rs zero tt above.1,
+)
+others_apart part (r ∷ rs) (suc i) below above = (
+  (λ same. let lt : r.part < part = below.0 in absurd (omega (arith, same, lt))),
+  others_apart part rs i below.1 above,
+)
+
+pub is_listed_as : (runs : List OpenRun) (part : ℕ) (r : Result ℕ ℕ) → IfOk r (IsRunAt runs part) →
+    IfErr r (IsGapAt runs part) → is_ok r ≡ is_one_of (parts_of runs) part
+is_listed_as runs part (Ok i) found absent =
+    let d : OpenRun = record { part = 0; left = 0 } in
+    sym (subst (λ (p : ℕ). is_one_of (parts_of runs) p ≡ true) (found.here d) (one_at runs i d found.in_range))
+is_listed_as runs part (Err i) found absent =
+    sym (false_from_ne_true (is_one_of (parts_of runs) part)
+    (not_one part runs (others_apart part runs i absent.below absent.above)))

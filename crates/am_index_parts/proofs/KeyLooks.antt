@@ -2,22 +2,23 @@
 use Rattle.std.proofs.Common.{◌≡◌, ◌≢◌, ℕ, zero, suc, ◌+◌, ◌<◌, ◌≤◌, true, false, List, [], ◌∷◌, length, get_or, take}
 use Rattle.std.proofs.Common.{Option, Some, None, refl, sym, ap, ◌∙◌, subst, ⊎_elim, arith}
 use Rattle.std.specs.Prelude.{IfSome, IfNone, is_some, ◌==◌}
-use Rattle.std.proofs.Math.Nat.{mod-eq_of_lt}
-use Rattle.std.proofs.lemmas.Bool.{or_cases, cases_eq, eqb-true, true≢false, false≢true}
+use Rattle.std.proofs.lemmas.Bool.{or_left, or_right, or_cases, cases_eq, eqb-true, true≢false, false≢true}
 use Rattle.std.specs.List.{AllByRecursion}
 use Rattle.std.specs.FinMap.{get}
 use Rattle.am_record.specs.OrderedKey.{OrderedKey}
+use Rattle.am_record.specs.Plain.{Records, is_key_of}
 use Rattle.am_record.specs.declared.entry.Entry.{Entry}
+use Rattle.am_record.proofs.FirstRows.{Record, key_eq, key_eq-itself}
+use Rattle.am_record.proofs.Lists.{AllByRecursion-at}
+use Rattle.std.proofs.lemmas.Option.{none-some}
 use Rattle.am_index.specs.Entries.{Slot, find}
 use Rattle.am_index.specs.Content.{content, live_value, IsLiveAt}
 use Rattle.std.proofs.lemmas.List.{get_or_default}
 use Rattle.am_index_parts.specs.declared.catalog.OpenRun.{OpenRun}
 use Rattle.am_index_parts.specs.Catalogs.{parts_of, is_one_of, PartsRise, AreListed}
 use Rattle.am_index_parts.specs.Partitions.{AreWellFormed, AreEmpty, AreEmptyFrom, LivesIn, LivesInNoRun, IsLiveEntry}
-use Rattle.am_index_parts.specs.Partitions.{IsVacancy, vacancy_over}
-use Rattle.am_index_directory.specs.declared.residence.Residence.{Residence}
-use Rattle.am_index_directory.specs.declared.residence.Residence.TheVariants.{Nowhere}
-use Rattle.am_index_parts.specs.Residences.{LivesInRun, Allows, place_of_run}
+use Rattle.am_index_parts.specs.Partitions.{IsVacancy, vacancy_over, AreAllAbsent}
+use Rattle.am_index_parts.specs.RunFilters.{LivesInRun}
 use Rattle.am_index_parts.proofs.Lives.{laws_of, lives_in}
 use Rattle.am_index_parts.proofs.ListedRuns.{is_listed, some_left}
 
@@ -165,84 +166,6 @@ module _ {es : List Entry} {n : ℕ} {runs : List OpenRun} (h : AreListed es n r
         (λ d lt. absurd (omega (arith, lt, past))) part key low (omega arith);
   }
 
--- ---- a look in every run
-
--- what is live in a run is in none of the first runs
-abbrev pub NotLiveIn : List Entry → OrderedKey → List OpenRun → Type 0
-NotLiveIn es key rs = AllByRecursion (λ (r : OpenRun). (value : List ℕ) → IsLiveAt es r.part key value → ⊥) rs
-
-pub live_in_no_run : {es : List Entry} {n : ℕ} {runs : List OpenRun} (key : OrderedKey) → AreListed es n runs →
-    NotLiveIn es key runs → LivesInNoRun es key
-live_in_no_run {es} {n} {runs} key h none = record {
-  none = λ part value some live. in_list runs part value live none
-      (is_listed h part key some (ap is_some live.there));
-}
-  where
-    in_list : (rs : List OpenRun) (part : ℕ) (value : List ℕ) → IsLiveAt es part key value → NotLiveIn es key rs →
-        is_one_of (parts_of rs) part ≡ true → ⊥
-    in_list [] part value live none one = false≢true one
-    in_list (r ∷ rs) part value live none one =
-        ⊎_elim
-        (λ here. none.0 value (subst (λ (p : ℕ). IsLiveAt es p key value) (sym (eqb-true r.part part here)) live))
-        (λ later. in_list rs part value live none.1 later)
-        (or_cases (r.part == part) (is_one_of (parts_of rs) part) one)
-
--- ---- a look that needs no run
-
--- where no run is listed, none has the key live
-pub none_listed : {es : List Entry} {n : ℕ} (runs : List OpenRun) (key : OrderedKey) (run : ℕ) → AreListed es n runs →
-    length runs ≡ 0 → LivesInRun es key run → ⊥
-none_listed [] key run h none it = false≢true (is_listed h run key it.is_run (ap is_some it.live.there))
-none_listed (r ∷ rs) key run h none it = absurd (omega (arith, none))
-
--- the same where it is known to be live in none
-pub lives_not : {es : List Entry} {key : OrderedKey} (r : Residence) →
-    ((run : ℕ) → LivesInRun es key run → Allows r run) → r ≡ Nowhere → LivesInNoRun es key
-lives_not r known nowhere = record {
-  none = λ part value some live.
-      subst (λ (q : Residence). Allows q part) nowhere (known part
-      (record { is_run = some; value = value; live = live }));
-}
-
--- ---- a look in the runs of a place
-
--- the key lives in none of the runs
-abbrev pub LivesInNone : List Entry → OrderedKey → List OpenRun → Type 0
-LivesInNone es key rs = AllByRecursion (λ (r : OpenRun). LivesInRun es key r.part → ⊥) rs
-
-pub lives_in_no_run : {es : List Entry} {n : ℕ} {runs : List OpenRun} (key : OrderedKey) → AreListed es n runs →
-    LivesInNone es key runs → LivesInNoRun es key
-lives_in_no_run {es} {n} {runs} key h none = record {
-  none = λ part value some live. in_list runs part (record { is_run = some; value = value; live = live }) none
-      (is_listed h part key some (ap is_some live.there));
-}
-  where
-    in_list : (rs : List OpenRun) (part : ℕ) → LivesInRun es key part → LivesInNone es key rs →
-        is_one_of (parts_of rs) part ≡ true → ⊥
-    in_list [] part it none one = false≢true one
-    in_list (r ∷ rs) part it none one =
-        ⊎_elim
-        (λ here. none.0 (subst (λ (p : ℕ). LivesInRun es key p) (sym (eqb-true r.part part here)) it))
-        (λ later. in_list rs part it none.1 later)
-        (or_cases (r.part == part) (is_one_of (parts_of rs) part) one)
-
--- where all numbers are below that of places, a place has one
-pub of_first_place : {es : List Entry} {n : ℕ} {runs : List OpenRun} {key : OrderedKey} {last place run : ℕ} →
-    AreListed es n runs → AllByRecursion (λ (r : OpenRun). r.part ≤ last) runs → last < 65536 →
-    LivesInRun es key run → place ≡ place_of_run run → place ≡ run
-of_first_place {es} {n} {runs} {key} {last} {place} {run} h low few it same =
-    same ∙ mod-eq_of_lt (omega (arith, few, below runs low (is_listed h run key it.is_run (ap is_some it.live.there))))
-  where
-    below : (rs : List OpenRun) → AllByRecursion (λ (r : OpenRun). r.part ≤ last) rs →
-        is_one_of (parts_of rs) run ≡ true → run ≤ last
-    below [] low one = absurd (false≢true one)
-    below (r ∷ rs) low one =
-        ⊎_elim
-        (λ here. let is : r.part ≡ run = eqb-true r.part run here in let le : r.part ≤ last = low.0 in
-        omega (arith, is, le))
-        (λ later. below rs low.1 later)
-        (or_cases (r.part == run) (is_one_of (parts_of rs) run) one)
-
 -- ---- the entry that a look found, or none
 
 -- the entry of what stands live at the place
@@ -254,17 +177,6 @@ module _ {es : List Entry} (sound : AreWellFormed es) (part : ℕ) (key : Ordere
   pub found_live : (o : Option Entry) → IfSome o (IsOf part key slot) → IfSome o (IsLiveEntry es key)
   found_live None h = tt
   found_live (Some e) h = stands_live {es = es} {key = key} sound part e (sym found ∙ h.0) h.1 h.2 h.3
-
-  -- where it may be live in this run alone, and isn't, it is live in none
-  pub found_none : (o : Option Entry) → ((part' : ℕ) → LivesInRun es key part' → part ≡ part') →
-      IfNone o (is_some (live_value slot) ≡ false) → IfNone o (LivesInNoRun es key)
-  found_none (Some e) only dead = tt
-  found_none None only dead = record {
-    none = λ part' value some live.
-        let same : part ≡ part' = only part' (record { is_run = some; value = value; live = live }) in
-        found_dead part (ap (λ (o : Option Slot). is_some (live_value o)) (sym found) ∙ dead) value
-        (subst (λ (p : ℕ). IsLiveAt es p key value) (sym same) live);
-  }
 
 -- where it isn't found live in a run, it isn't live there
 pub not_found : (es : List Entry) (part : ℕ) (key : OrderedKey) (slot : Option Slot) → slot ≡ find es part key →
@@ -286,3 +198,27 @@ not_none (Some x) P some = tt
 pub said_of_none : {A : Type 0} (o : Option A) (P : Type 0) → is_some o ≡ false → IfNone o P → P
 said_of_none None P none h = h
 said_of_none (Some x) P none h = absurd (true≢false none)
+
+-- ---- keys that are live nowhere
+
+-- records that are live in no partition are absent
+pub all_absent : {es : List Entry} → AreWellFormed es → (rs : Records) →
+    ((key : OrderedKey) (value : List ℕ) → is_key_of rs key ≡ true → IsLiveAt es 0 key value → ⊥) →
+    AllByRecursion (λ (r : Record). LivesInNoRun es r.0) rs → AreAllAbsent es rs
+all_absent sound [] none dead = tt
+all_absent {es} sound (r ∷ rs) none dead = (
+  (laws_of sound).reads.dead r.0 (λ part value live.
+      ⊎_elim
+      (λ (same : part ≡ 0). none r.0 value (or_left (key_eq r.0 r.0) (is_key_of rs r.0) (key_eq-itself r.0))
+      (subst (λ (p : ℕ). IsLiveAt es p r.0 value) same live))
+      (λ (other : part ≢ 0). dead.0.none part value (omega (arith, other)) live)
+      (cases_eq part 0)),
+  all_absent sound rs (λ key value one. none key value (or_right (key_eq key r.0) (is_key_of rs key) one)) dead.1,
+)
+
+-- where one is live, not all are absent
+pub not_all_absent : (es : List Entry) (rs : Records) (i : ℕ) (pair : Record) (e : Entry) → i < length rs →
+    pair ≡ get_or rs i pair → IsLiveEntry es pair.0 e → AreAllAbsent es rs → ⊥
+not_all_absent es rs i pair e lt is live absent =
+    none-some e.value (sym (ap (λ (r : Record). get (content es) r.0) is ∙
+    AllByRecursion-at (λ (r : Record). get (content es) r.0 ≡ None) rs i pair absent lt) ∙ live.has)

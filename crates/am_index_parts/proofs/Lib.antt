@@ -1,9 +1,7 @@
 pub mod AppendedRuns
 pub mod Counts
-pub mod DirectoryAnswers
-pub mod KeptWords
 pub mod Alive
-pub mod LiveRuns
+mod Settling
 pub mod ListedRuns
 pub mod OpenRuns
 pub mod CatalogCalls
@@ -13,11 +11,11 @@ pub mod OneRunMore
 pub mod KeyLooks
 pub mod Lives
 mod MergedKnowledge
+pub mod Filters
 mod Homes
 mod Changes
 mod StandingEntries
 mod HomeRooms
 pub mod Neighbours
 pub mod Looks
-pub mod NotedKeys
 pub mod ReplacedRanges

@@ -37,13 +37,9 @@ use Rattle.am_index_parts.specs.MergedRanges.{AreMerged}
 use Rattle.am_index_parts.specs.declared.merged_ranges.MergedRange.{MergedRange}
 use Rattle.am_index_parts.specs.Partitions.{AreWellFormed, settled, settled_too, all_settled, brought_home, gone_home}
 use Rattle.am_index_parts.specs.Partitions.{all_gone_home, FirstNeedsRoom, IsStretch}
-use Rattle.am_index_parts.specs.Residences.{LivesInRun, OneRun, AreResidences}
-use Rattle.am_index_parts.specs.declared.residences.Residences.{Residences}
 use Rattle.am_index_parts.proofs.Changes.{IsAfter, homes, takes, without_ghost}
 use Rattle.am_index_parts.proofs.MergedKnowledge.{merged_home, merged_removed}
-use Rattle.am_index_parts.proofs.LiveRuns.{one_run, inserted_finds, reset_finds, removed_finds, fewer, none_dead}
-use Rattle.am_index_parts.proofs.LiveRuns.{rising_settled, fewer_settled}
-use Rattle.am_index_parts.proofs.DirectoryAnswers.{tells_fewer}
+use Rattle.am_index_parts.proofs.Settling.{inserted_finds, reset_finds, rising_settled}
 
 -- ---- an entry among its neighbours
 
@@ -77,23 +73,6 @@ pub rising_left : (n : ℕ) (front xs back : List Entry) → IsRising (front ++ 
 rising_left zero front xs back rise = rise
 rising_left (suc n) front [] back rise = rise
 rising_left (suc n) front (x ∷ xs) back rise = rising_left n front xs back (rising_remove front x (xs ++ back) rise)
-
--- what is live among those that are left was live before
-pub lives_left : (n : ℕ) (front xs back : List Entry) → IsRising (front ++ (xs ++ back)) →
-    (key : OrderedKey) (part : ℕ) →
-    LivesInRun (front ++ (drop n xs ++ back)) key part → LivesInRun (front ++ (xs ++ back)) key part
-lives_left zero front xs back rise key part it = it
-lives_left (suc n) front [] back rise key part it = it
-lives_left (suc n) front (x ∷ xs) back rise key part it =
-    let es : List Entry = front ++ x ∷ (xs ++ back) in
-    fewer es (remove_entry es x.part x.key) x.part x.key None (removed_finds es rise x.part x.key) none_dead key part
-    (subst (λ (l : List Entry). LivesInRun l key part) (sym (one_gone front x (xs ++ back) rise))
-    (lives_left n front xs back (rising_remove front x (xs ++ back) rise) key part it))
-
-pub one_run_left : (n : ℕ) (front xs back : List Entry) → IsRising (front ++ (xs ++ back)) → OneRun
-    (front ++ (xs ++ back)) → OneRun (front ++ (drop n xs ++ back))
-one_run_left n front xs back rise one = λ key part part' here there.
-    one key part part' (lives_left n front xs back rise key part here) (lives_left n front xs back rise key part' there)
 
 drop-front : {X : Type 0} (n : ℕ) (xs ys : List X) → n ≤ length xs → drop n (xs ++ ys) ≡ drop n xs ++ ys
 drop-front zero xs ys le = refl
@@ -227,17 +206,6 @@ rising_settled_too e es rise = elim e.is_ghost as (λ b. IsRising (cond b es (se
 pub rising_all_settled : (ms es : List Entry) → IsRising es → IsRising (all_settled ms es)
 rising_all_settled [] es rise = rise
 rising_all_settled (m ∷ ms) es rise = rising_all_settled ms (settled_too m es) (rising_settled_too m es rise)
-
--- what is put into the final partition lives in no run
-pub fewer_all_settled : (ms es : List Entry) → IsRising es → (key : OrderedKey) (part : ℕ) →
-    LivesInRun (all_settled ms es) key part → LivesInRun es key part
-fewer_all_settled [] es rise key part it = it
-fewer_all_settled (m ∷ ms) es rise key part it =
-    one (fewer_all_settled ms (settled_too m es) (rising_settled_too m es rise) key part it)
-  where
-    one : LivesInRun (settled_too m es) key part → LivesInRun es key part
-    one = elim m.is_ghost as (λ b. LivesInRun (cond b es (settled m es)) key part → LivesInRun es key part)
-        [ true ↦ (λ it. it) | false ↦ (λ it. fewer_settled m es rise key part it) ]
 
 -- ---- home
 
@@ -520,16 +488,3 @@ module _ {es : List Entry} (sound : AreWellFormed es) (xs : List Entry) (stretch
   pub at_home : IsAfter (all_gone_home (take n xs) es) (content es)
   at_home = subst (λ l. IsAfter (all_gone_home (take n xs) l) (content l)) (sym stand.2)
       (all_home (take n xs) stand.0 stand.1 (subst AreWellFormed stand.2 sound) runs)
-
-  fewer_then : (key : OrderedKey) (part : ℕ) → LivesInRun (front_then ++ (take n xs ++ back_then)) key part →
-      LivesInRun es key part
-  fewer_then key part it = fewer_all_settled (take n xs) es sound.rising key part
-      (subst (λ (l : List Entry). LivesInRun l key part) (sym settled_is) it)
-
-  pub one_run_then : OneRun (front_then ++ (take n xs ++ back_then))
-  one_run_then = λ key part part' here there. one_run sound key part part' (fewer_then key part here)
-      (fewer_then key part' there)
-
-  pub told_then : (r : Residences) → AreResidences es r → AreResidences (front_then ++ (take n xs ++ back_then)) r
-  told_then r told = tells_fewer r.hash (LivesInRun es) (LivesInRun (front_then ++ (take n xs ++ back_then)))
-      r.directory r.directory told fewer_then (λ number. refl)

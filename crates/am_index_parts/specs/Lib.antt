@@ -1,7 +1,6 @@
-pub mod Ahead
 pub mod Catalogs
 pub mod Figures
 pub mod GoingHome
 pub mod MergedRanges
 pub mod Partitions
-pub mod Residences
+pub mod RunFilters

@@ -80,16 +80,12 @@ impl Catalog {
         &self.runs
     }
 
-    /// The last run that has entries left, 0 where none has.
-    pub(crate) fn last_run(&self) -> u32
+    /// Whether the run has entries left.
+    pub(crate) fn has_run(&self, part: u32) -> bool
         requires { PartsRise (parts_of self.now.runs.items) }
-        ensures greatest { AllByRecursion (λ r. r.part ≤ result) self.now.runs.items }
-        ensures stands { is_one_of (0 ∷ parts_of self.now.runs.items) result ≡ true }
+        ensures { result ≡ is_one_of (parts_of self.now.runs.items) part }
     {
-        match self.runs.last() {
-            Some(run) => run.part,
-            None => 0,
-        }
+        search(&self.runs, part).is_ok()
     }
 
     /// How many runs have entries left.

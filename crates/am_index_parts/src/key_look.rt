@@ -2,119 +2,68 @@
 
 ghost use Rattle.std.specs.Prelude.{◌≡◌, ◌<◌, ℕ, false, Some, is_some, IfSome, IfNone};
 ghost use Rattle.am_index.specs.Content.{live_value};
-ghost use Rattle.am_index_parts.specs.Catalogs.{IsCatalog};
 ghost use Rattle.am_index_parts.specs.Partitions.{AreWellFormed, IsLiveEntry, LivesInNoRun};
-ghost use Rattle.am_index_parts.specs.Residences.{LivesInRun, Allows, place_of_run};
+ghost use Rattle.am_index_parts.specs.RunFilters.{LivesInRun, IsNamed, AreFiltered};
 
-use crate::catalog::Catalog;
-use crate::residences::PLACES;
+use crate::run_filters::{RunFilter, RunFilters};
 use am_index::{Hint, PartIndex};
-use am_index_directory::Residence;
 use am_record::{Entry, Key, Value};
 
-/// The entry of a run that has the key live, by what is known of where it may be.
-pub(crate) fn live_by<I: PartIndex + Drop>(
+/// The entry of a run that has the key live, and a hint for it. Runs in which it may be are searched, the newest first,
+/// since fresh runs are asked for most. The hint is for the first of these; where there is none, it is given back.
+pub(crate) fn live_in_runs<I: PartIndex + Drop>(
     index: &I,
-    catalog: &Catalog,
-    residence: Residence,
-    key: Key,
-) -> Option<Entry>
-    requires sound { AreWellFormed (I.entries index.now) }
-    requires counted { IsCatalog (I.entries index.now) catalog.now }
-    requires known { (run : ℕ) → LivesInRun (I.entries index.now) key run → Allows residence run }
-    ensures live { IfSome result (λ e. IsLiveEntry (I.entries index.now) key e) }
-    ensures absent { IfNone result (LivesInNoRun (I.entries index.now) key) }
-{
-    match residence {
-        Residence::Nowhere => None,
-        Residence::In(place) => live_in_place(index, catalog, place, key, Hint::none()).0,
-        Residence::Unknown => live_in_any_run(index, catalog, key).0,
-    }
-}
-
-/// The same, where it may be live in the runs of a place alone, and a hint for it. Where all numbers are below that of
-/// places, that is one run. Else the last number of the place is tried first, since fresh runs are asked for most, and
-/// then each other run of it. The hint is for the run that is tried first.
-pub(crate) fn live_in_place<I: PartIndex + Drop>(
-    index: &I,
-    catalog: &Catalog,
-    place: u32,
+    filters: &RunFilters,
     key: Key,
     hint: Hint,
 ) -> (Option<Entry>, Hint)
     requires sound { AreWellFormed (I.entries index.now) }
-    requires counted { IsCatalog (I.entries index.now) catalog.now }
-    requires known { (run : ℕ) → LivesInRun (I.entries index.now) key run → place ≡ place_of_run run }
+    requires filtered { AreFiltered (I.entries index.now) filters.now }
     ensures live { IfSome result.0 (λ e. IsLiveEntry (I.entries index.now) key e) }
     ensures absent { IfNone result.0 (LivesInNoRun (I.entries index.now) key) }
 {
-    let last = catalog.last_run();
-    let newest = newest_of(last, place);
-    let (slot, in_newest) = index.look(newest, key, hint);
-    let found = live_at(newest, key, slot);
-    if last < PLACES || found.is_some() {
-        return (found, in_newest);
-    }
-    for run in catalog.runs() {
-        let (found, in_run) = live_in_other(index, run.part, place, newest, key);
-        if found.is_some() {
-            return (found, in_run);
+    let number = filters.number(key);
+    let generations = filters.generations();
+    let mut next = hint;
+    for at in (0..generations.len()).rev() {
+        let generation = &generations[at];
+        if generation.all.may_have(number) {
+            let (found, there) = live_in_these(index, &generation.runs, number, key, next);
+            if found.is_some() {
+                return (found, there);
+            }
+            next = there;
         }
     }
-    (None, Hint::none())
+    (None, next)
 }
 
-// The entry of another run than the newest one that has the key live there, and a hint for it. It may be live in the
-// runs of a place alone.
-fn live_in_other<I: PartIndex + Drop>(
+// The entry of one of these runs that has the key of a number live, and a hint for it.
+fn live_in_these<I: PartIndex + Drop>(
     index: &I,
-    run: u32,
-    place: u32,
-    newest: u32,
+    runs: &[RunFilter],
+    number: u64,
     key: Key,
+    hint: Hint,
 ) -> (Option<Entry>, Hint)
     requires sound { AreWellFormed (I.entries index.now) }
-    requires known { LivesInRun (I.entries index.now) key run → place ≡ place_of_run run }
-    requires passed { ¬ LivesInRun (I.entries index.now) key newest }
     ensures live { IfSome result.0 (λ e. IsLiveEntry (I.entries index.now) key e) }
-    ensures none { IfNone result.0 (¬ LivesInRun (I.entries index.now) key run) }
+    ensures absent { IfNone result.0 ((run : ℕ) → LivesInRun (I.entries index.now) key run →
+        IsNamed runs.now run number → ⊥) }
 {
-    if run == newest || run % PLACES != place {
-        return (None, Hint::none());
-    }
-    let (slot, there) = index.look(run, key, Hint::none());
-    (live_at(run, key, slot), there)
-}
-
-/// The run of a place that is looked at first, where the last run has that number.
-pub(crate) fn newest_of(last: u32, place: u32) -> u32
-    ensures { last < 65536 → result ≡ place }
-{
-    if last < PLACES {
-        return place;
-    }
-    last - (last - place % PLACES) % PLACES
-}
-
-/// The entry of a run that has the key live, and a hint for it, where the runs are searched one after another.
-pub(crate) fn live_in_any_run<I: PartIndex + Drop>(
-    index: &I,
-    catalog: &Catalog,
-    key: Key,
-) -> (Option<Entry>, Hint)
-    requires sound { AreWellFormed (I.entries index.now) }
-    requires counted { IsCatalog (I.entries index.now) catalog.now }
-    ensures live { IfSome result.0 (λ e. IsLiveEntry (I.entries index.now) key e) }
-    ensures absent { IfNone result.0 (LivesInNoRun (I.entries index.now) key) }
-{
-    for run in catalog.runs() {
-        let (slot, in_run) = index.look(run.part, key, Hint::none());
-        let found = live_at(run.part, key, slot);
-        if found.is_some() {
-            return (found, in_run);
+    let mut next = hint;
+    for at in (0..runs.len()).rev() {
+        let run = &runs[at];
+        if run.filter.may_have(number) {
+            let (slot, there) = index.look(run.part, key, next);
+            let found = live_at(run.part, key, slot);
+            if found.is_some() {
+                return (found, there);
+            }
+            next = Hint::none();
         }
     }
-    (None, Hint::none())
+    (None, next)
 }
 
 /// The entry of what stands live at a place.

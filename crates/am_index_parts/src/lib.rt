@@ -2,8 +2,8 @@
 //!
 //! [`Parts`] has the runs that were loaded and the final partition, in one index, and beside them:
 //! - the catalog: which runs have entries, and how many. A run leaves it with its last entry.
-//! - the residences: a directory ([`am_index_directory`]) tells in which run a key is live, so a read costs one look
-//!   there and one descent. They may forget, and then all runs are searched.
+//! - the filters ([`am_index_filter`]) of runs: they say of a key that it is in no run, or in which runs it may be. So
+//!   a load looks for few of its keys, and a read descends in few runs.
 //! - the merged ranges: once a merge step finds nothing left in a range, no run has an entry there, and only loads
 //!   make new runs. So a range is kept with the first run that may have an entry in it, and scans and merge steps
 //!   begin at that run. Two that meet become one; of more than 4,096 those of the highest keys go. What is known is
@@ -15,8 +15,8 @@ mod fault;
 mod key_look;
 mod merged_ranges;
 mod parts;
-mod residences;
 mod run_entry;
+mod run_filters;
 mod way_home;
 
 pub use fault::RunFault;

@@ -14,17 +14,15 @@ ghost use Rattle.am_index.specs.Content.{content, rows_in, live_value, HasConten
 ghost use Rattle.am_index_parts.specs.Catalogs.{IsCatalog, runs_in};
 ghost use Rattle.am_index_parts.specs.MergedRanges.{HasNoneBefore};
 ghost use Rattle.am_index_parts.specs.Partitions.{vacancy_over, NoneLiveIn, AreAllAbsent};
-ghost use Rattle.am_index_parts.specs.Residences.{LivesInRun, Allows, place_of_run};
 
 use crate::catalog::Catalog;
 use crate::fault::RunFault;
-use crate::key_look::{live_at, live_by, live_in_any_run, live_in_place, newest_of};
+use crate::key_look::{live_at, live_in_runs};
 use crate::merged_ranges::MergedRanges;
-use crate::residences::Residences;
-use crate::run_entry::enter_run;
+use crate::run_entry::live_in_none;
+use crate::run_filters::RunFilters;
 use crate::way_home::{forget_all, remove_all, settle_all};
 use am_index::{Batch, Figures, Hint, PLACES_AT_ONCE, PartIndex};
-use am_index_directory::Residence;
 use am_record::{Entry, HashKey, Key, NoMemory, Range, Value};
 use std::alloc::Global;
 use std::marker::Model;
@@ -46,7 +44,7 @@ pub enum Vacancy {
 pub struct Parts<I: PartIndex + Drop> {
     index: I,
     catalog: Catalog,
-    residences: Residences,
+    filters: RunFilters,
     merged: MergedRanges,
     runs: u32,
 }
@@ -57,13 +55,13 @@ impl<I: PartIndex + Drop> Drop for Parts<I> {
         let Parts {
             index,
             catalog,
-            residences,
+            filters,
             merged,
             runs: _,
         } = self;
         drop(index);
         drop(catalog);
-        drop(residences);
+        drop(filters);
         drop(merged);
     }
 }
@@ -74,7 +72,7 @@ impl<I: PartIndex + Drop> Model for Parts<I> {
     ghost use Rattle.am_index_parts.specs.Catalogs.{IsCatalog};
     ghost use Rattle.am_index_parts.specs.MergedRanges.{AreMerged};
     ghost use Rattle.am_index_parts.specs.Partitions.{Partitions, partitions_code, AreWellFormed};
-    ghost use Rattle.am_index_parts.specs.Residences.{AreResidences, KeepNoneInVain};
+    ghost use Rattle.am_index_parts.specs.RunFilters.{AreFiltered};
     ghost use Rattle.am_record.specs.Limits.{last_run};
 
     ghost Value = { Partitions };
@@ -84,9 +82,8 @@ impl<I: PartIndex + Drop> Model for Parts<I> {
     ghost view = { λ p. record { entries = I.entries p.index; runs = p.runs; roomy = I.roomy p.index } };
 
     ghost invariant = { λ p. AreWellFormed (I.entries p.index) × (p.runs ≤ last_run) ×
-        IsCatalog (I.entries p.index) p.catalog × AreResidences (I.entries p.index) p.residences ×
-        AreMerged (I.entries p.index) p.runs p.merged.list.items × HaveRoom (I.entries p.index) (I.roomy p.index) ×
-        KeepNoneInVain (I.entries p.index) p.residences };
+        IsCatalog (I.entries p.index) p.catalog × AreFiltered (I.entries p.index) p.filters ×
+        AreMerged (I.entries p.index) p.runs p.merged.list.items × HaveRoom (I.entries p.index) (I.roomy p.index) };
 }
 
 impl<I: PartIndex + Drop> Parts<I> {
@@ -108,7 +105,7 @@ impl<I: PartIndex + Drop> Parts<I> {
         Parts {
             index,
             catalog: Catalog::new(alloc),
-            residences: Residences::new(alloc, hash),
+            filters: RunFilters::new(alloc, hash),
             merged: MergedRanges::new(alloc),
             runs: 0,
         }
@@ -161,7 +158,7 @@ impl<I: PartIndex + Drop> Parts<I> {
     pub fn hints(&self, records: &[(Key, Value)]) -> [Hint; PLACES_AT_ONCE] {
         let mut places = [(0, Key::least()); PLACES_AT_ONCE];
         for (place, pair) in places.iter_mut().zip(records) {
-            *place = (self.first_part(pair.0), pair.0);
+            *place = (self.filters.newest_run(pair.0).unwrap_or(0), pair.0);
         }
         let places = &places[..records.len().min(PLACES_AT_ONCE)];
         if !self.catalog.has_final() && places.iter().all(|place| place.0 == 0) {
@@ -308,8 +305,8 @@ impl<I: PartIndex + Drop> Parts<I> {
         self.catalog.figures()
     }
 
-    /// The entry that has the key live, and a hint for it, or for its place in the final partition. Of the runs that
-    /// one alone is searched in which the key may be live.
+    /// The entry that has the key live, and a hint for it, or for its place in the final partition. Of the runs those
+    /// alone are searched in which the key may be.
     pub fn live_entry(&self, key: Key, hint: Hint) -> (Option<Entry>, Hint)
         ensures live { IfSome result.0 (λ e. IsLiveEntry self.now.entries key e) }
         ensures absent { IfNone result.0 (get (content self.now.entries) key ≡ None) }
@@ -329,38 +326,20 @@ impl<I: PartIndex + Drop> Parts<I> {
         ensures absent { IfNone result (LivesInNoRun self.now.entries key) }
         ensures sound { AreWellFormed self.now.entries }
     {
-        live_by(&self.index, &self.catalog, self.residences.of(key), key)
+        live_in_runs(&self.index, &self.filters, key, Hint::none()).0
     }
 
-    /// What a new record of the key meets, and a hint for its live entry, or for its place in the final partition. What
-    /// is known of where it may be live says where it is looked for first.
+    /// What a new record of the key meets, and a hint for its live entry, or for its place in the final partition. The
+    /// runs in which it may be are searched first.
     pub fn vacancy(&self, key: Key, hint: Hint) -> (Vacancy, Hint)
         ensures met { IsVacancy self.now.entries key result.0 }
         ensures sound { AreWellFormed self.now.entries }
         ensures room { HaveRoom self.now.entries self.now.roomy }
     {
-        match self.residence_of(key) {
-            Residence::Nowhere => self.vacancy_in_final(key, hint),
-            Residence::In(place) => self.vacancy_from_place(place, key, hint),
-            Residence::Unknown => self.vacancy_from_final(key, hint),
-        }
-    }
-
-    // In which run the key may be live. Where no run has entries, the directory isn't asked.
-    fn residence_of(&self, key: Key) -> Residence
-        ensures { (run : ℕ) → LivesInRun self.now.entries key run → Allows result run }
-    {
-        if self.catalog.runs().is_empty() {
-            return Residence::Nowhere;
-        }
-        self.residences.of(key)
-    }
-
-    // The partition that is looked at first for a key.
-    fn first_part(&self, key: Key) -> u32 {
-        match self.residence_of(key) {
-            Residence::In(place) => newest_of(self.catalog.last_run(), place),
-            Residence::Nowhere | Residence::Unknown => 0,
+        let (found, next) = live_in_runs(&self.index, &self.filters, key, hint);
+        match found {
+            Some(entry) => (Vacancy::Taken(entry), next),
+            None => self.vacancy_in_final(key, next),
         }
     }
 
@@ -390,37 +369,6 @@ impl<I: PartIndex + Drop> Parts<I> {
         (vacancy_over(&slot), there)
     }
 
-    // What a record meets whose key may be live in the runs of a place: these come first.
-    fn vacancy_from_place(&self, place: u32, key: Key, hint: Hint) -> (Vacancy, Hint)
-        requires known { (run : ℕ) → LivesInRun self.now.entries key run → place ≡ place_of_run run }
-        ensures met { IsVacancy self.now.entries key result.0 }
-        ensures sound { AreWellFormed self.now.entries }
-        ensures room { HaveRoom self.now.entries self.now.roomy }
-    {
-        let (found, there) = live_in_place(&self.index, &self.catalog, place, key, hint);
-        if let Some(entry) = found {
-            return (Vacancy::Taken(entry), there);
-        }
-        self.vacancy_in_final(key, Hint::none())
-    }
-
-    // What a record meets of whose key nothing is known: the final partition comes first, and then the runs.
-    fn vacancy_from_final(&self, key: Key, hint: Hint) -> (Vacancy, Hint)
-        ensures met { IsVacancy self.now.entries key result.0 }
-        ensures sound { AreWellFormed self.now.entries }
-        ensures room { HaveRoom self.now.entries self.now.roomy }
-    {
-        let (slot, in_final) = self.look_in_final(key, hint);
-        if let Some(entry) = live_at(0, key, slot) {
-            return (Vacancy::Taken(entry), in_final);
-        }
-        let (found, in_run) = live_in_any_run(&self.index, &self.catalog, key);
-        match found {
-            Some(entry) => (Vacancy::Taken(entry), in_run),
-            None => (vacancy_over(&slot), in_final),
-        }
-    }
-
     /// Adds an entry. The caller sees to it that no entry has its partition and key, and where it
     /// is live, that its key is live nowhere. The hint is for its place.
     ///
@@ -437,12 +385,10 @@ impl<I: PartIndex + Drop> Parts<I> {
     {
         // Read here, the number is known to fit its type.
         prove!(entry.part <= u32::MAX);
-        self.residences.make_room(entry.part, entry.key)?;
+        self.filters.make_room_for(entry.part, entry.key)?;
         self.catalog.add(entry.part, entry.is_ghost)?;
         self.merged.add(entry.part);
-        insert_or_forget(&mut self.index, &mut self.catalog, entry, hint)?;
-        self.residences.add(&entry);
-        Ok(())
+        insert_or_forget(&mut self.index, &mut self.catalog, entry, hint)
     }
 
     /// Gets room for a value of so many bytes at an entry. The caller sees to it that it is there. A value of 16 bytes
@@ -483,7 +429,6 @@ impl<I: PartIndex + Drop> Parts<I> {
     {
         let was_live = self.index.set(part, key, value, is_ghost, hint);
         self.catalog.mark(was_live, is_ghost);
-        self.residences.set(part, key, was_live, is_ghost);
     }
 
     /// Takes an entry out. The caller sees to it that it is there. Takes no memory.
@@ -497,7 +442,6 @@ impl<I: PartIndex + Drop> Parts<I> {
     {
         let entry = self.index.remove(part, key);
         self.catalog.take(part, !entry.is_ghost);
-        self.residences.take(&entry);
         entry
     }
 
@@ -519,7 +463,8 @@ impl<I: PartIndex + Drop> Parts<I> {
         let count = settle_all(&mut self.index, &mut self.catalog, entries);
         let gone = &entries[..count];
         remove_all(&mut self.index, gone);
-        forget_all(&mut self.catalog, &mut self.residences, gone);
+        forget_all(&mut self.catalog, gone);
+        self.filters.let_go(&self.catalog);
         count
     }
 
@@ -555,8 +500,8 @@ impl<I: PartIndex + Drop> Parts<I> {
 
     /// Makes the records the next run, all of them live in it, and counts it. The caller sees to it that fewer than
     /// 4,294,967,294 runs were made, that no entry stands above them, that there is a record, that the records
-    /// rise, and that none of their keys is live in the final partition. Each key costs one probe of a hash table, and
-    /// where one of its label may be live in a run, a descent.
+    /// rise, and that none of their keys is live in the final partition. A key costs a look in a filter of each
+    /// generation of runs, and where one of these may have it, in those of its runs, and a descent in each that may.
     ///
     /// # Errors
     /// Taken, where one of the keys is live in a run; NoMemory, where memory was refused. Entries and runs are as
@@ -579,18 +524,13 @@ impl<I: PartIndex + Drop> Parts<I> {
         let part = self.runs + 1;
         self.merged.reserve()?;
         self.catalog.make_room(records.len())?;
-        self.residences.make_room_for(records)?;
-        enter_run(
-            &self.index,
-            &self.catalog,
-            &mut self.residences,
-            part,
-            records,
-        )?;
-        if self.index.append_run(part, records).is_err() {
-            self.residences.forget(records);
-            return Err(RunFault::NoMemory);
+        self.filters.let_go(&self.catalog);
+        let numbers = self.filters.numbers(records)?;
+        if !live_in_none(&self.index, &self.filters, records, &numbers) {
+            return Err(RunFault::Taken);
         }
+        self.filters.enter_run(part, &numbers)?;
+        self.index.append_run(part, records)?;
         self.catalog.push(part, records.len());
         self.runs = part;
         Ok(())

@@ -8,10 +8,8 @@ ghost use Rattle.am_index.specs.Rooms.{needs_room, HaveRoom, KeepRoom};
 ghost use Rattle.am_index_parts.specs.Catalogs.{IsCatalog};
 ghost use Rattle.am_index_parts.specs.GoingHome.{AreHomesOf, goes_behind};
 ghost use Rattle.am_index_parts.specs.Partitions.{settled_too, all_settled, FirstNeedsRoom};
-ghost use Rattle.am_index_parts.specs.Residences.{OneRun, AreResidences, KeepNoneInVain};
 
 use crate::catalog::Catalog;
-use crate::residences::{AHEAD, Residences};
 use am_index::{Batch, Hint, PartIndex};
 use am_record::{Entry, NoMemory};
 
@@ -202,28 +200,14 @@ pub(crate) fn remove_all<I: PartIndex + Drop>(index: &mut I, entries: &[Entry])
     }
 }
 
-/// Counts neighbours as gone, and notes that they are. Takes no memory.
-pub(crate) fn forget_all(catalog: &mut Catalog, residences: &mut Residences, entries: &[Entry])
+/// Counts neighbours as gone. Takes no memory.
+pub(crate) fn forget_all(catalog: &mut Catalog, entries: &[Entry])
     requires { (front : List Entry) × (back : List Entry) × IsRising (front ++ (entries.now ++ back)) ×
         IsCatalog (front ++ (entries.now ++ back)) catalog.old }
-    ensures catalog { (front back : List Entry) → IsRising (front ++ (entries.now ++ back)) →
+    ensures { (front back : List Entry) → IsRising (front ++ (entries.now ++ back)) →
         IsCatalog (front ++ (entries.now ++ back)) catalog.old → IsCatalog (front ++ back) catalog.new }
-    ensures residences { (front back : List Entry) → IsRising (front ++ (entries.now ++ back)) →
-        OneRun (front ++ (entries.now ++ back)) → AreResidences (front ++ (entries.now ++ back)) residences.old →
-        AreResidences (front ++ back) residences.new }
-    ensures kept { (front back : List Entry) → IsRising (front ++ (entries.now ++ back)) →
-        KeepNoneInVain (front ++ (entries.now ++ back)) residences.old →
-        KeepNoneInVain (front ++ back) residences.new }
 {
     for entry in entries {
         catalog.take(entry.part, !entry.is_ghost);
-    }
-    // All looks are begun before a word is changed, so the words come from memory at once. Of keys without one nothing
-    // is noted.
-    if entries.len() <= AHEAD && residences.know_none(entries) {
-        return;
-    }
-    for gone in entries {
-        residences.take(gone);
     }
 }

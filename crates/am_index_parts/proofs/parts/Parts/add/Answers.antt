@@ -1,8 +1,10 @@
 use Rattle.std.proofs.Common.{◌≡◌, None, refl, sym, ap, subst, arith}
 use Rattle.am_index.specs.Entries.{find}
 use Rattle.am_index_parts.specs.Partitions.{Partitions}
-use Rattle.am_index_parts.specs.Residences.{AreResidences, KeepNoneInVain}
+use Rattle.am_index_parts.specs.RunFilters.{AreFiltered}
+use Rattle.am_index_parts.proofs.CatalogCalls.{ok_map}
 use Rattle.am_index_parts.proofs.Changes.{adds, adds_sound}
+use Rattle.am_index_parts.proofs.Filters.{filtered_more, filtered_where_added}
 use Rattle.am_index_parts.proofs.MergedKnowledge.{merged_where_added}
 use Rattle.am_index_parts.proofs.parts.Parts.add.Goals as goal
 
@@ -16,41 +18,42 @@ invariant_of-self-2 g c = (
       c.insert_or_forget.ensures.err,
   c.self.invariant.1,
   c.insert_or_forget.ensures.catalog,
-  subst (λ es. AreResidences es c.add-3.new.self) (sym c.in_ok-insert_or_forget.ensures.ok)
-      (c.add-3.ensures.added (g.I.PartIndex.entries c.self.inside.index) c.self.invariant.0.rising
-      (c.make_room.ensures.same (g.I.PartIndex.entries c.self.inside.index) c.self.invariant.3)),
+  filtered_where_added c.make_room_for.new.self (g.I.PartIndex.entries c.self.inside.index)
+      (g.I.PartIndex.entries c.insert_or_forget.new.index) c.args.entry c.insert_or_forget.result
+      c.in_ok-make_room_for.ensures.entered c.insert_or_forget.ensures.ok c.insert_or_forget.ensures.err
+      (filtered_more (g.I.PartIndex.entries c.self.inside.index) c.self.inside.filters c.make_room_for.new.self
+      c.make_room_for.ensures.hash c.make_room_for.ensures.kept c.self.invariant.3),
   merged_where_added (g.I.PartIndex.entries c.self.inside.index) (g.I.PartIndex.entries c.insert_or_forget.new.index)
       c.self.inside.runs c.args.entry c.self.inside.merged.list.items c.add-2.new.self.list.items
       c.insert_or_forget.result
       c.add-2.ensures.kept c.add-2.ensures.let_go c.insert_or_forget.ensures.ok c.insert_or_forget.ensures.err
       c.self.invariant.4,
   c.insert_or_forget.ensures.rooms.have,
-  subst (λ es. KeepNoneInVain es c.add-3.new.self) (sym c.in_ok-insert_or_forget.ensures.ok)
-      (c.add-3.ensures.kept (g.I.PartIndex.entries c.self.inside.index) c.self.invariant.0.rising
-      (subst (λ (p : Partitions). find p.entries c.args.entry.part c.args.entry.key ≡ None) (sym c.self.view_is)
-      c.requires.absent)
-      (c.make_room.ensures.kept (g.I.PartIndex.entries c.self.inside.index) c.self.invariant.6)),
 )
 
-pub invariant_of-self-in_err-insert_or_forget : goal.invariant_of-self-in_err-insert_or_forget
-invariant_of-self-in_err-insert_or_forget g c = (
-  adds_sound (ap (λ (p : Partitions). p.entries) c.self.view_is) c.self.invariant.0 c.args.entry (omega arith)
-      c.requires.absent c.requires.dead c.insert_or_forget.result c.insert_or_forget.ensures.ok
-      c.insert_or_forget.ensures.err,
+pub invariant_of-self : goal.invariant_of-self
+invariant_of-self g c = (
+  c.self.invariant.0,
   c.self.invariant.1,
-  c.insert_or_forget.ensures.catalog,
-  subst (λ es. AreResidences es c.make_room.new.self) (sym c.in_err-insert_or_forget.ensures.err)
-      (c.make_room.ensures.same (g.I.PartIndex.entries c.self.inside.index) c.self.invariant.3),
-  merged_where_added (g.I.PartIndex.entries c.self.inside.index) (g.I.PartIndex.entries c.insert_or_forget.new.index)
-      c.self.inside.runs c.args.entry c.self.inside.merged.list.items c.add-2.new.self.list.items
-      c.insert_or_forget.result
-      c.add-2.ensures.kept c.add-2.ensures.let_go c.insert_or_forget.ensures.ok c.insert_or_forget.ensures.err
-      c.self.invariant.4,
-  c.insert_or_forget.ensures.rooms.have,
-  subst (λ es. KeepNoneInVain es c.make_room.new.self) (sym c.in_err-insert_or_forget.ensures.err)
-      (c.make_room.ensures.kept (g.I.PartIndex.entries c.self.inside.index) c.self.invariant.6),
+  c.self.invariant.2,
+  filtered_more (g.I.PartIndex.entries c.self.inside.index) c.self.inside.filters c.make_room_for.new.self
+      c.make_room_for.ensures.hash c.make_room_for.ensures.kept c.self.invariant.3,
+  c.self.invariant.4,
+  c.self.invariant.5,
+)
+
+pub invariant_of-self-in_err-add : goal.invariant_of-self-in_err-add
+invariant_of-self-in_err-add g c = (
+  c.self.invariant.0,
+  c.self.invariant.1,
+  c.in_err-add.ensures.err _ c.self.invariant.2,
+  filtered_more (g.I.PartIndex.entries c.self.inside.index) c.self.inside.filters c.make_room_for.new.self
+      c.make_room_for.ensures.hash c.make_room_for.ensures.kept c.self.invariant.3,
+  c.self.invariant.4,
+  c.self.invariant.5,
 )
 
 pub returns-clause-content : goal.returns-clause-content
-returns-clause-content g c = (adds (ap (λ (p : Partitions). p.entries) c.self.view_is) c.self.invariant.0
-    c.args.entry (omega arith) c.requires.absent c.requires.dead c.in_ok-insert_or_forget.ensures.ok).has
+returns-clause-content g c =
+    ok_map c.insert_or_forget.result (λ is. (adds (ap (λ (p : Partitions). p.entries) c.self.view_is) c.self.invariant.0
+    c.args.entry (omega arith) c.requires.absent c.requires.dead is).has) c.insert_or_forget.ensures.ok

@@ -1,4 +1,4 @@
-use Rattle.std.proofs.Common.{List, take, drop, inl, inr, ⊎_elim, sym, ap, ◌∙◌, subst}
+use Rattle.std.proofs.Common.{◌++◌, List, take, drop, inl, inr, ⊎_elim, sym, ap, ◌∙◌, subst}
 use Rattle.std.specs.Prelude.{IsSome}
 use Rattle.am_record.specs.EntryOrder.{Place}
 use Rattle.am_record.specs.declared.entry.Entry.{Entry}
@@ -9,11 +9,10 @@ use Rattle.am_index.proofs.Rooms.{keep_on}
 use Rattle.am_index_parts.specs.Catalogs.{IsCatalog}
 use Rattle.am_index_parts.specs.MergedRanges.{AreMerged}
 use Rattle.am_index_parts.specs.Partitions.{Partitions, AreWellFormed, IsStretch, FirstNeedsRoom, all_gone_home}
-use Rattle.am_index_parts.specs.Residences.{AreResidences, KeepNoneInVain}
+use Rattle.am_index_parts.specs.RunFilters.{AreFiltered}
 use Rattle.am_index_parts.proofs.Neighbours.{front_then, back_then, settled_is, settled_rise, home_is, at_home}
-use Rattle.am_index_parts.proofs.Neighbours.{one_run_then}
-use Rattle.am_index_parts.proofs.Neighbours.{told_then, merged_all_home, needs_before}
-use Rattle.am_index_parts.proofs.KeptWords.{kept_then}
+use Rattle.am_index_parts.proofs.Neighbours.{merged_all_home, needs_before}
+use Rattle.am_index_parts.proofs.Filters.{filtered_home}
 use Rattle.am_index_parts.proofs.StandingEntries.{between}
 use Rattle.am_index_parts.proofs.parts.Parts.bring_home.Goals as goal
 
@@ -48,6 +47,20 @@ forget_all-requires g c =
       subst (λ (l : List Entry). IsCatalog l c.settle_all-count.new.catalog) settles c.settle_all-count.ensures.catalog,
     )
 
+pub let_go-requires : goal.let_go-requires
+let_go-requires g c =
+    let xs = c.args.entries.now in
+    let n = c.settle_all-count.result in let le = c.settle_all-count.ensures.most in
+    let same = ap (λ (p : Partitions). p.entries) c.self.view_is in let sound = c.self.invariant.0 in
+    let stretch = subst (λ (l : List Entry). IsStretch l xs) (sym same) c.requires in
+    let settles = c.settle_all-count.ensures.settled ∙ settled_is sound xs stretch n le in
+    let front = front_then sound xs stretch n le in let back = back_then sound xs stretch n le in (
+      front ++ back,
+      c.forget_all.ensures front back (settled_rise sound xs stretch n le)
+          (subst (λ (l : List Entry). IsCatalog l c.settle_all-count.new.catalog) settles
+          c.settle_all-count.ensures.catalog),
+    )
+
 pub invariant_of-self : goal.invariant_of-self
 invariant_of-self g c =
     let es = g.I.PartIndex.entries c.self.inside.index in let xs = c.args.entries.now in
@@ -58,22 +71,20 @@ invariant_of-self g c =
     let front = front_then sound xs stretch n le in let back = back_then sound xs stretch n le in
     let final = c.remove_all.ensures.gone front back settles in
     let home = home_is sound xs stretch n le ∙ sym final in
-    let rise = settled_rise sound xs stretch n le in (
+    let rise = settled_rise sound xs stretch n le in
+    let catalog = subst (λ (l : List Entry). IsCatalog l c.forget_all.new.catalog) (sym final)
+    (c.forget_all.ensures front back rise
+    (subst (λ (l : List Entry). IsCatalog l c.settle_all-count.new.catalog) settles
+    c.settle_all-count.ensures.catalog)) in (
       subst AreWellFormed home (at_home sound xs stretch n le).sound,
       c.self.invariant.1,
-      subst (λ (l : List Entry). IsCatalog l c.forget_all.new.catalog) (sym final)
-          (c.forget_all.ensures.catalog front back rise
-          (subst (λ (l : List Entry). IsCatalog l c.settle_all-count.new.catalog) settles
-          c.settle_all-count.ensures.catalog)),
-      subst (λ (l : List Entry). AreResidences l c.forget_all.new.residences) (sym final)
-          (c.forget_all.ensures.residences front back rise (one_run_then sound xs stretch n le)
-          (told_then sound xs stretch n le c.self.inside.residences c.self.invariant.3)),
+      catalog,
+      subst (λ (l : List Entry). AreFiltered l c.let_go.new.self) home
+          (c.let_go.ensures _ (subst (λ (l : List Entry). IsCatalog l c.forget_all.new.catalog) (sym home) catalog)
+          (filtered_home c.self.inside.filters (take n xs) es c.self.invariant.3)),
       subst (λ (l : List Entry). AreMerged l c.self.inside.runs c.self.inside.merged.list.items) home
           (merged_all_home (take n xs) es c.self.inside.runs c.self.inside.merged.list.items c.self.invariant.4),
       c.remove_all.ensures.rooms.have,
-      subst (λ (l : List Entry). KeepNoneInVain l c.forget_all.new.residences) (sym final)
-          (c.forget_all.ensures.kept front back rise
-          (kept_then sound xs stretch n le c.self.inside.residences c.self.invariant.6)),
     )
 
 pub returns-clause-entries : goal.returns-clause-entries

@@ -25,5 +25,4 @@ invariant_of-self g c =
         c.self.invariant.4,
       ),
       c.self.invariant.5,
-      c.self.invariant.6,
     )

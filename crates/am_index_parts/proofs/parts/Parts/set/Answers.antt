@@ -4,8 +4,8 @@ use Rattle.am_index.specs.Entries.{find}
 use Rattle.am_index_parts.specs.Catalogs.{IsCatalog}
 use Rattle.am_index_parts.specs.MergedRanges.{AreMerged}
 use Rattle.am_index_parts.specs.Partitions.{Partitions}
-use Rattle.am_index_parts.specs.Residences.{AreResidences, KeepNoneInVain}
-use Rattle.am_index_parts.proofs.LiveRuns.{one_run}
+use Rattle.am_index_parts.specs.RunFilters.{AreFiltered}
+use Rattle.am_index_parts.proofs.Filters.{filtered_set}
 use Rattle.am_index_parts.proofs.Changes.{marks}
 use Rattle.am_index_parts.proofs.MergedKnowledge.{merged_set}
 use Rattle.am_index_parts.proofs.parts.Parts.set.Goals as goal
@@ -21,16 +21,13 @@ invariant_of-self g c =
       subst (λ es. IsCatalog es c.mark.new.self) (sym c.set-was_live.ensures.set)
           (c.mark.ensures _ c.args.part c.args.key c.args.value c.self.invariant.2 there
           (sym c.set-was_live.ensures.was_live)),
-      subst (λ es. AreResidences es c.set.new.self) (sym c.set-was_live.ensures.set)
-          (c.set.ensures.told _ c.args.value c.self.invariant.0.rising (one_run c.self.invariant.0) there
-          c.set-was_live.ensures.was_live c.self.invariant.3),
+      subst (λ es. AreFiltered es c.self.inside.filters) (sym c.set-was_live.ensures.set)
+          (filtered_set c.self.inside.filters (g.I.PartIndex.entries c.self.inside.index) c.self.invariant.3 c.args.part
+          c.args.key c.args.value c.args.is_ghost),
       subst (λ es. AreMerged es c.self.inside.runs c.self.inside.merged.list.items) (sym c.set-was_live.ensures.set)
           (merged_set (g.I.PartIndex.entries c.self.inside.index) c.self.inside.runs c.args.part c.args.key c.args.value
           c.args.is_ghost c.self.inside.merged.list.items c.self.invariant.4),
       c.set-was_live.ensures.rooms.have,
-      subst (λ es. KeepNoneInVain es c.set.new.self) (sym c.set-was_live.ensures.set)
-          (c.set.ensures.kept _ c.args.value c.self.invariant.0.rising there c.set-was_live.ensures.was_live
-          c.self.invariant.6),
     )
 
 pub returns-clause-content : goal.returns-clause-content

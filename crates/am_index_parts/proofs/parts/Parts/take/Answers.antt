@@ -9,11 +9,11 @@ use Rattle.am_index.proofs.Edits.{entry_at_place}
 use Rattle.am_index_parts.specs.Catalogs.{IsCatalog}
 use Rattle.am_index_parts.specs.MergedRanges.{AreMerged}
 use Rattle.am_index_parts.specs.Partitions.{Partitions}
-use Rattle.am_index_parts.specs.Residences.{AreResidences, KeepNoneInVain}
+use Rattle.am_index_parts.specs.RunFilters.{AreFiltered}
 use Rattle.am_index.proofs.Content.{slot_live}
 use Rattle.am_index_parts.proofs.Changes.{takes}
 use Rattle.am_index_parts.proofs.MergedKnowledge.{merged_removed}
-use Rattle.am_index_parts.proofs.LiveRuns.{one_run}
+use Rattle.am_index_parts.proofs.Filters.{filtered_removed}
 use Rattle.am_index_parts.proofs.parts.Parts.take.Goals as goal
 
 pub take-requires : goal.take-requires
@@ -31,12 +31,7 @@ pub invariant_of-self : goal.invariant_of-self
 invariant_of-self g c =
     let es = g.I.PartIndex.entries c.self.inside.index in
     let x = c.remove-entry.result in
-    let at : (x.part, x.key) ≡ (c.args.part, c.args.key) =
-    entry_at_place es c.args.part c.args.key x c.remove-entry.ensures.entry in
-    let found : entry_at es x.part x.key ≡ Some x =
-    ap (λ (q : Place). entry_at es q.0 q.1) at ∙ c.remove-entry.ensures.entry in
-    let others : g.I.PartIndex.entries c.remove-entry.new.self ≡ remove_entry es x.part x.key =
-    c.remove-entry.ensures.others ∙ ap (λ (q : Place). remove_entry es q.0 q.1) (sym at) in (
+    (
       (takes (ap (λ (p : Partitions). p.entries) c.self.view_is) c.self.invariant.0 c.args.part c.args.key c.requires
           c.remove-entry.ensures.others).sound,
       c.self.invariant.1,
@@ -45,14 +40,12 @@ invariant_of-self g c =
           (ap (λ (o : Option Entry). is_some (option_map slot_of o)) c.remove-entry.ensures.entry)
           (ap (λ (o : Option Entry). is_some (live_value (option_map slot_of o))) c.remove-entry.ensures.entry ∙
           slot_live x)),
-      subst (λ es. AreResidences es c.take-2.new.self) (sym others)
-          (c.take-2.ensures.told es c.self.invariant.0.rising (one_run c.self.invariant.0) found c.self.invariant.3),
+      subst (λ es. AreFiltered es c.self.inside.filters) (sym c.remove-entry.ensures.others)
+          (filtered_removed c.self.inside.filters es c.self.invariant.3 c.args.part c.args.key),
       subst (λ es. AreMerged es c.self.inside.runs c.self.inside.merged.list.items) (sym c.remove-entry.ensures.others)
           (merged_removed es c.self.inside.runs c.args.part c.args.key c.self.inside.merged.list.items
           c.self.invariant.4),
       c.remove-entry.ensures.rooms.have,
-      subst (λ es. KeepNoneInVain es c.take-2.new.self) (sym others)
-          (c.take-2.ensures.kept es c.self.invariant.0.rising found c.self.invariant.6),
     )
 
 pub returns-clause-content : goal.returns-clause-content
