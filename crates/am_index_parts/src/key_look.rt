@@ -1,6 +1,6 @@
 //! Looks for live keys.
 
-ghost use Rattle.std.specs.Prelude.{◌≡◌, ◌<◌, ℕ, false, Some, is_some, IfSome, IfNone};
+ghost use Rattle.std.specs.Prelude.{◌≡◌, ◌<◌, ℕ, true, false, Some, is_some, IfSome, IfNone};
 ghost use Rattle.am_index.specs.Content.{live_value};
 ghost use Rattle.am_index_parts.specs.Partitions.{AreWellFormed, IsLiveEntry, LivesInNoRun};
 ghost use Rattle.am_index_parts.specs.RunFilters.{LivesInRun, IsNamed, AreFiltered};
@@ -27,7 +27,7 @@ pub(crate) fn live_in_runs<I: PartIndex + Drop>(
     let mut next = hint;
     for at in (0..generations.len()).rev() {
         let generation = &generations[at];
-        if generation.all.may_have(number) {
+        if generation.may_have(number) {
             let (found, there) = live_in_these(index, &generation.runs, number, key, next);
             if found.is_some() {
                 return (found, there);
@@ -49,12 +49,12 @@ fn live_in_these<I: PartIndex + Drop>(
     requires sound { AreWellFormed (I.entries index.now) }
     ensures live { IfSome result.0 (λ e. IsLiveEntry (I.entries index.now) key e) }
     ensures absent { IfNone result.0 ((run : ℕ) → LivesInRun (I.entries index.now) key run →
-        IsNamed runs.now run number → ⊥) }
+        IsNamed true runs.now run number → ⊥) }
 {
     let mut next = hint;
     for at in (0..runs.len()).rev() {
         let run = &runs[at];
-        if run.filter.may_have(number) {
+        if run.may_have(number) {
             let (slot, there) = index.look(run.part, key, next);
             let found = live_at(run.part, key, slot);
             if found.is_some() {

@@ -1,12 +1,17 @@
 //! Which keys may be in which run.
 
-ghost use Rattle.std.specs.Prelude.{◌≡◌, ◌<◌, ℕ, List, [], true, length, OnOk, IfOk, IfSome, IfNone};
+ghost use Rattle.std.specs.Prelude.{◌≡◌, ◌≢◌, ◌<◌, ◌≤◌, ◌↔◌, ◌&&◌, ℕ, Bool, List, [], true, false, length, get_or, IsSome, is_some};
+ghost use Rattle.std.specs.Prelude.{OnOk, IfOk, IfSome, IfNone};
 ghost use Rattle.std.specs.List.{All, list_any};
 ghost use Rattle.am_record.specs.KeyNumber.{key_number, numbers_of};
+ghost use Rattle.am_record.specs.OrderedKey.{OrderedKey};
 ghost use Rattle.am_record.specs.declared.entry.Entry.{Entry};
+ghost use Rattle.am_index.specs.Content.{live_value};
+ghost use Rattle.am_index.specs.Entries.{find, set_entry};
 ghost use Rattle.am_index_filter.specs.Covers.{covers};
 ghost use Rattle.am_index_parts.specs.Catalogs.{IsCatalog, PartsRise, parts_of, is_one_of};
-ghost use Rattle.am_index_parts.specs.RunFilters.{IsNamed, IsNamedIn, MayBeIn, AreFiltered, may_have_any};
+ghost use Rattle.am_index_parts.specs.RunFilters.{IsNamedIn, MayBeIn, AreFiltered, may_have_any};
+ghost use Rattle.am_index_parts.specs.RunFilters.{newest_of, newest_run};
 
 use crate::catalog::Catalog;
 use am_index_filter::Filter;
@@ -19,24 +24,62 @@ const MOST_RUNS: usize = 64;
 /// A generation is made for so many keys at least.
 const FEWEST_KEYS: usize = 1_024;
 
+/// A generation that has no room for a run is followed by one for so many times its keys.
+const GROWTH: usize = 4;
+
 /// So many filters of runs without entries are kept, and one beside each of a run that has some.
 const FEWEST_GONE: usize = 16;
 
-/// A run, and a filter of its keys.
+/// A run, and a filter of its keys. It sleeps while none of the run's entries is live.
 #[derive(Drop)]
 pub(crate) struct RunFilter {
     pub(crate) part: u32,
+    pub(crate) is_awake: bool,
     pub(crate) filter: Filter,
 }
 
+impl RunFilter {
+    /// Whether the key of the number may be live in the run.
+    pub(crate) fn may_have(&self, number: u64) -> bool
+        ensures { result ≡ (self.now.is_awake && covers self.now.filter number) }
+    {
+        self.is_awake && self.filter.may_have(number)
+    }
+
+    // Puts it to sleep.
+    fn sleep(&mut self)
+        ensures part { self.new.part ≡ self.old.part }
+        ensures filter { self.new.filter ≡ self.old.filter }
+        ensures asleep { self.new.is_awake ≡ false }
+    {
+        self.is_awake = false;
+    }
+
+    // Wakes it, if it is that of the run.
+    fn wake(&mut self, part: u32)
+        ensures part { self.new.part ≡ self.old.part }
+        ensures filter { self.new.filter ≡ self.old.filter }
+        ensures woken { self.new.part ≡ part → self.new.is_awake ≡ true }
+        ensures kept { self.old.is_awake ≡ true → self.new.is_awake ≡ true }
+    {
+        if self.part == part {
+            self.is_awake = true;
+        }
+    }
+}
+
 /// Runs that were made one after another. A filter of all their keys tells of a key that it is in none of them, and
-/// that of each run, in which it may be.
+/// that of each run, in which it may be. It sleeps while all of them do.
 #[derive(Drop)]
 pub(crate) struct Generation {
     pub(crate) all: Filter,
     // For how many keys more that one is made, and how many it has.
     room: usize,
     entered: usize,
+    pub(crate) is_awake: bool,
+    // Of its runs the numbers lie between these.
+    first: u32,
+    last: u32,
     pub(crate) runs: Vec<RunFilter>,
 }
 
@@ -48,19 +91,39 @@ impl Generation {
             all,
             room: keys,
             entered: 0,
+            is_awake: false,
+            first: u32::MAX,
+            last: 0,
             runs: Vec::new(alloc),
         })
     }
 
-    // Whether a run of so many keys belongs to the next one.
-    fn is_over(&self, keys: usize) -> bool {
-        self.room < keys || self.runs.len() >= MOST_RUNS
+    // For how many keys the next one is made, where a run of so many belongs to it.
+    fn next_size(&self, keys: usize) -> Option<usize> {
+        if self.runs.len() >= MOST_RUNS {
+            return Some(self.entered);
+        }
+        if self.room < keys {
+            return Some(self.entered.saturating_mul(GROWTH));
+        }
+        None
     }
 
-    // Whether one of the numbers may have been entered. It goes through all, so their words come from memory at once.
-    fn may_have_any(&self, numbers: &[u64]) -> bool
-        ensures { result ≡ list_any (λ n. covers self.now.all n) numbers.now }
+    /// Whether the key of the number may be live in one of its runs.
+    pub(crate) fn may_have(&self, number: u64) -> bool
+        ensures { result ≡ (self.now.is_awake && covers self.now.all number) }
     {
+        self.is_awake && self.all.may_have(number)
+    }
+
+    // Whether one of the numbers may be that of a live entry. It goes through all, so their words come from memory at
+    // once.
+    fn may_have_any(&self, numbers: &[u64]) -> bool
+        ensures { result ≡ (self.now.is_awake && list_any (λ n. covers self.now.all n) numbers.now) }
+    {
+        if !self.is_awake {
+            return false;
+        }
         let mut may_have_any = false;
         for number in numbers {
             may_have_any |= self.all.may_have(*number);
@@ -70,22 +133,64 @@ impl Generation {
 
     // One run more, with a filter of the numbers of its keys.
     fn push(&mut self, run: RunFilter, numbers: &[u64]) -> Result<(), NoMemory>
-        requires { All (λ n. covers run.filter n ≡ true) numbers.now }
-        ensures entered { OnOk result (All (λ n. IsNamedIn self.new run.part n) numbers.now) }
-        ensures kept { (part n : ℕ) → IsNamedIn self.old part n → IsNamedIn self.new part n }
+        requires covered { All (λ n. covers run.filter n ≡ true) numbers.now }
+        requires awake { run.is_awake ≡ true }
+        ensures entered { OnOk result (All (λ n. IsNamedIn true self.new run.part n) numbers.now) }
+        ensures kept { (live : Bool) (part n : ℕ) → IsNamedIn live self.old part n → IsNamedIn live self.new part n }
     {
+        let part = run.part;
         self.runs.push(run)?;
         self.all.enter_all(numbers);
+        self.is_awake = true;
+        self.first = self.first.min(part);
+        self.last = self.last.max(part);
         self.entered = self.entered.saturating_add(numbers.len());
         self.room = self.room.saturating_sub(numbers.len());
         Ok(())
     }
 
+    // Whether the number of a run lies between those of its runs.
+    fn spans(&self, part: u32) -> bool
+        ensures { (result ≡ true) ↔ ((self.now.first ≤ part) × (part ≤ self.now.last)) }
+    {
+        self.first <= part && part <= self.last
+    }
+
+    // Puts the run to sleep, which has no live entry. Whether it was there.
+    fn sleep(&mut self, part: u32) -> bool
+        ensures { (live : Bool) (run n : ℕ) → (live ≡ true → run ≢ part) → IsNamedIn live self.old run n →
+            IsNamedIn live self.new run n }
+    {
+        if !self.spans(part) {
+            return false;
+        }
+        let Some(at) = place_of(&self.runs, part) else {
+            return false;
+        };
+        self.runs[at].sleep();
+        self.is_awake = is_any_awake(&self.runs);
+        true
+    }
+
+    // Wakes the run.
+    fn wake(&mut self, part: u32)
+        ensures woken { (n : ℕ) → IsNamedIn false self.new part n → IsNamedIn true self.new part n }
+        ensures kept { (live : Bool) (run n : ℕ) → IsNamedIn live self.old run n → IsNamedIn live self.new run n }
+    {
+        if !self.spans(part) {
+            return;
+        }
+        self.is_awake = true;
+        for at in 0..self.runs.len() {
+            self.runs[at].wake(part);
+        }
+    }
+
     // Lets filters go of runs that have no entries.
     fn let_go(&mut self, catalog: &Catalog)
         requires { PartsRise (parts_of catalog.now.runs.items) }
-        ensures { (run n : ℕ) → is_one_of (parts_of catalog.now.runs.items) run ≡ true → IsNamedIn self.old run n →
-            IsNamedIn self.new run n }
+        ensures { (live : Bool) (run n : ℕ) → is_one_of (parts_of catalog.now.runs.items) run ≡ true →
+            IsNamedIn live self.old run n → IsNamedIn live self.new run n }
     {
         self.runs.retain(|run| catalog.has_run(run.part));
     }
@@ -145,7 +250,7 @@ impl RunFilters {
         Ok(numbers)
     }
 
-    /// Whether the key of one of the numbers may be in a run.
+    /// Whether the key of one of the numbers may be live in a run.
     pub(crate) fn may_have_any(&self, numbers: &[u64]) -> bool
         ensures { result ≡ may_have_any self.now.generations.items numbers.now }
     {
@@ -156,21 +261,26 @@ impl RunFilters {
         any
     }
 
-    /// Enters the keys of these numbers as those of a run.
+    /// Enters the keys of these numbers as those of a run, all of them live.
     ///
     /// # Errors
     /// NoMemory, where memory was refused.
     pub(crate) fn enter_run(&mut self, part: u32, numbers: &[u64]) -> Result<(), NoMemory>
-        ensures entered { OnOk result (All (λ n. MayBeIn self.new.generations.items part n) numbers.now) }
-        ensures kept { (run n : ℕ) → MayBeIn self.old.generations.items run n →
-            MayBeIn self.new.generations.items run n }
+        ensures entered { OnOk result (All (λ n. MayBeIn true self.new.generations.items part n) numbers.now) }
+        ensures kept { (live : Bool) (run n : ℕ) → MayBeIn live self.old.generations.items run n →
+            MayBeIn live self.new.generations.items run n }
         ensures hash { self.new.hash ≡ self.old.hash }
     {
         let mut filter = Filter::new(self.alloc, numbers.len())?;
         filter.enter_all(numbers);
         self.make_room(numbers.len())?;
         let newest = self.generations.len() - 1;
-        self.generations[newest].push(RunFilter { part, filter }, numbers)?;
+        let run = RunFilter {
+            part,
+            is_awake: true,
+            filter,
+        };
+        self.generations[newest].push(run, numbers)?;
         self.runs = self.runs.saturating_add(1);
         Ok(())
     }
@@ -181,9 +291,9 @@ impl RunFilters {
     /// NoMemory, where memory was refused.
     pub(crate) fn make_room_for(&mut self, part: u32, key: Key) -> Result<(), NoMemory>
         ensures entered { OnOk result (0 < part →
-            MayBeIn self.new.generations.items part (key_number self.new.hash key)) }
-        ensures kept { (run n : ℕ) → MayBeIn self.old.generations.items run n →
-            MayBeIn self.new.generations.items run n }
+            MayBeIn true self.new.generations.items part (key_number self.new.hash key)) }
+        ensures kept { (live : Bool) (run n : ℕ) → MayBeIn live self.old.generations.items run n →
+            MayBeIn live self.new.generations.items run n }
         ensures hash { self.new.hash ≡ self.old.hash }
     {
         if part == 0 {
@@ -196,8 +306,8 @@ impl RunFilters {
     // Begins a generation, where a run of so many keys belongs to the next one.
     fn make_room(&mut self, keys: usize) -> Result<(), NoMemory>
         ensures some { OnOk result (0 < length self.new.generations.items) }
-        ensures kept { (run n : ℕ) → MayBeIn self.old.generations.items run n →
-            MayBeIn self.new.generations.items run n }
+        ensures kept { (live : Bool) (run n : ℕ) → MayBeIn live self.old.generations.items run n →
+            MayBeIn live self.new.generations.items run n }
         ensures hash { self.new.hash ≡ self.old.hash }
     {
         let Some(size) = self.next_size(keys) else {
@@ -208,17 +318,64 @@ impl RunFilters {
         Ok(())
     }
 
-    // For how many keys a generation is made, where a run of so many belongs to the next one: for twice as many as the
-    // last has, so no filter is ever made anew.
+    // For how many keys a generation is made, where a run of so many belongs to the next one. No filter is ever made
+    // anew.
     fn next_size(&self, keys: usize) -> Option<usize>
         ensures { IfNone result (0 < length self.now.generations.items) }
     {
-        let entered = match self.generations.last() {
-            Some(newest) if newest.is_over(keys) => newest.entered,
-            Some(_) => return None,
+        let more = match self.generations.last() {
+            Some(newest) => newest.next_size(keys)?,
             None => 0,
         };
-        Some(keys.max(FEWEST_KEYS).max(entered.saturating_mul(2)))
+        Some(more.max(keys).max(FEWEST_KEYS))
+    }
+
+    /// Notes that an entry is written over, which was live or a ghost. The catalog counts the entries as they are then.
+    /// Takes no memory.
+    pub(crate) fn set(&mut self, part: u32, was_live: bool, is_ghost: bool, catalog: &Catalog)
+        requires { (es : List Entry) × IsCatalog es catalog.now }
+        ensures { (es : List Entry) (key : OrderedKey) (value : List ℕ) → IsSome (find es part key) →
+            was_live ≡ is_some (live_value (find es part key)) →
+            IsCatalog (set_entry es part key value is_ghost) catalog.now → AreFiltered es self.old →
+            AreFiltered (set_entry es part key value is_ghost) self.new }
+    {
+        if part == 0 {
+            return;
+        }
+        if was_live != is_ghost {
+            return;
+        }
+        if !is_ghost {
+            self.wake(part);
+        } else if !catalog.has_live(part) {
+            self.sleep(part);
+        }
+    }
+
+    // Puts the run to sleep, which has no live entry.
+    fn sleep(&mut self, part: u32)
+        ensures kept { (live : Bool) (run n : ℕ) → (live ≡ true → run ≢ part) →
+            MayBeIn live self.old.generations.items run n → MayBeIn live self.new.generations.items run n }
+        ensures hash { self.new.hash ≡ self.old.hash }
+    {
+        for at in (0..self.generations.len()).rev() {
+            if self.generations[at].sleep(part) {
+                return;
+            }
+        }
+    }
+
+    // Wakes the run.
+    fn wake(&mut self, part: u32)
+        ensures woken { (n : ℕ) → MayBeIn false self.new.generations.items part n →
+            MayBeIn true self.new.generations.items part n }
+        ensures kept { (live : Bool) (run n : ℕ) → MayBeIn live self.old.generations.items run n →
+            MayBeIn live self.new.generations.items run n }
+        ensures hash { self.new.hash ≡ self.old.hash }
+    {
+        for at in 0..self.generations.len() {
+            self.generations[at].wake(part);
+        }
     }
 
     /// Lets filters go of runs that have no entries, where they are many. Takes no memory.
@@ -238,17 +395,14 @@ impl RunFilters {
         self.runs = open;
     }
 
-    /// The newest run in which the key may be.
+    /// The newest run in which the key may be live.
     pub(crate) fn newest_run(&self, key: Key) -> Option<u32>
-        ensures named { IfSome result (λ run.
-            MayBeIn self.now.generations.items run (key_number self.now.hash key)) }
-        ensures none { IfNone result ((run : ℕ) →
-            MayBeIn self.now.generations.items run (key_number self.now.hash key) → ⊥) }
+        ensures { result ≡ newest_run self.now.generations.items (key_number self.now.hash key) }
     {
         let number = self.number(key);
         for at in (0..self.generations.len()).rev() {
             let generation = &self.generations[at];
-            if generation.all.may_have(number) {
+            if generation.may_have(number) {
                 let newest = newest_of(&generation.runs, number);
                 if newest.is_some() {
                     return newest;
@@ -259,16 +413,39 @@ impl RunFilters {
     }
 }
 
-// The newest of these runs in which the key of a number may be.
+// The newest of these runs in which the key of a number may be live.
 fn newest_of(runs: &[RunFilter], number: u64) -> Option<u32>
-    ensures named { IfSome result (λ run. IsNamed runs.now run number) }
-    ensures none { IfNone result ((run : ℕ) → IsNamed runs.now run number → ⊥) }
+    ensures { result ≡ newest_of runs.now number }
 {
     for at in (0..runs.len()).rev() {
         let run = &runs[at];
-        if run.filter.may_have(number) {
+        if run.may_have(number) {
             return Some(run.part);
         }
     }
     None
+}
+
+// Where the run stands among these.
+fn place_of(runs: &[RunFilter], part: u32) -> Option<usize>
+    ensures { IfSome result (λ at. (at < length runs.now) × ((d : RunFilter) → (get_or runs.now at d).part ≡ part)) }
+{
+    for at in (0..runs.len()).rev() {
+        if runs[at].part == part {
+            return Some(at);
+        }
+    }
+    None
+}
+
+// Whether one of these runs is awake.
+fn is_any_awake(runs: &[RunFilter]) -> bool
+    ensures { result ≡ list_any (λ (f : RunFilter). f.is_awake) runs.now }
+{
+    for run in runs {
+        if run.is_awake {
+            return true;
+        }
+    }
+    false
 }

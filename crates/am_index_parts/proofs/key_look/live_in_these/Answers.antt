@@ -1,8 +1,6 @@
-use Rattle.std.proofs.Common.{◌≡◌, ◌-◌, ℕ, sym, ◌∙◌, ⊎_elim, subst, true, false, arith}
-use Rattle.std.proofs.lemmas.Bool.{both_ways}
-use Rattle.am_index_filter.specs.Covers.{covers}
+use Rattle.std.proofs.Common.{◌≡◌, ◌-◌, ℕ, refl, sym, ◌∙◌, ⊎_elim, subst, true, false, arith}
 use Rattle.am_index_parts.specs.RunFilters.{LivesInRun}
-use Rattle.am_index_parts.proofs.Filters.{named_below, named_in_none}
+use Rattle.am_index_parts.proofs.Filters.{named_below, named_in_none, not_said}
 use Rattle.am_index_parts.proofs.KeyLooks.{found_live, not_found, said_of_none}
 use Rattle.am_index_parts.proofs.key_look.live_in_these.Goals as goal
 
@@ -21,17 +19,17 @@ loop-at-preserved-then-may_have g c = λ run lives it.
     (not_found es part c.args.key c.look-slot.result.0 c.look-slot.ensures.found c.live_at-found.result
     c.live_at-found.ensures.none) (subst (λ (p : ℕ). LivesInRun es c.args.key p) (sym here.0) lives)))
     (λ before. before)
-    (named_below run c.args.number c.args.runs.now c.loop-at.at c.index-runs-at.result c.loop-at-test.true
+    (named_below true run c.args.number c.args.runs.now c.loop-at.at c.index-runs-at.result c.loop-at-test.true
     c.loop-at.auto.at c.index-runs-at.is (c.loop-at.invariant run lives it))
 
 pub loop-at-preserved : goal.loop-at-preserved
 loop-at-preserved g c = λ run lives it.
-    ⊎_elim (λ here. absurd (both_ways (covers c.index-runs-at.result.filter c.args.number)
-    (sym c.may_have.ensures ∙ c.if-may_have.false) here.1)) (λ before. before)
-    (named_below run c.args.number c.args.runs.now c.loop-at.at c.index-runs-at.result c.loop-at-test.true
+    ⊎_elim (λ here. absurd (not_said true run c.args.number c.index-runs-at.result refl
+    (sym c.may_have.ensures ∙ c.if-may_have.false) here)) (λ before. before)
+    (named_below true run c.args.number c.args.runs.now c.loop-at.at c.index-runs-at.result c.loop-at-test.true
     c.loop-at.auto.at c.index-runs-at.is (c.loop-at.invariant run lives it))
 
 pub returns-clause-absent : goal.returns-clause-absent
 returns-clause-absent g c = λ run lives it.
-    named_in_none run c.args.number c.args.runs.now c.loop-at.at (omega (arith, c.loop-at-test.false))
+    named_in_none true run c.args.number c.args.runs.now c.loop-at.at (omega (arith, c.loop-at-test.false))
     (c.loop-at.invariant run lives it)

@@ -1,4 +1,4 @@
-use Rattle.std.proofs.Common.{ℕ, ◌≡◌, ◌+◌, ◌≤◌, ◌++◌, List, refl, sym, ap, ◌∙◌, subst, arith}
+use Rattle.std.proofs.Common.{ℕ, true, ◌≡◌, ◌+◌, ◌≤◌, ◌++◌, List, refl, sym, ap, ◌∙◌, subst, arith}
 use Rattle.std.specs.List.{All, AllByRecursion}
 use Rattle.am_record.specs.KeyNumber.{numbers_of}
 use Rattle.am_record.specs.Plain.{insert_all}
@@ -42,7 +42,7 @@ invariant_of-self-2 g c =
     let numbers : c.in_ok-numbers.numbers.items ≡ numbers_of c.let_go.new.self.hash c.args.records.now =
     c.in_ok-numbers.ensures in
     let entered = subst (λ (l : List ℕ).
-    All (λ n. MayBeIn c.enter_run.new.self.generations.items (c.self.inside.runs + 1) n) l)
+    All (λ n. MayBeIn true c.enter_run.new.self.generations.items (c.self.inside.runs + 1) n) l)
     (c.deref-2.ensures.value ∙ numbers ∙ ap (λ (h : HashKey). numbers_of h c.args.records.now)
     (sym c.enter_run.ensures.hash)) c.in_ok-enter_run.ensures.entered in (
       subst AreWellFormed (sym is)

@@ -10,16 +10,16 @@ pub loop-at-preserved : goal.loop-at-preserved
 loop-at-preserved c = record {
   hash = c.loop-at.invariant.hash;
   many = length-set c.loop-at.self.generations.items c.loop-at.at c.let_go.new.self ∙ c.loop-at.invariant.many;
-  kept = λ run n stays it. may_be_set run n c.loop-at.self.generations.items c.loop-at.at c.index_mut.result.now
-      c.let_go.new.self c.index_mut.ensures.value (c.let_go.ensures run n stays)
-      (c.loop-at.invariant.kept run n stays it);
+  kept = λ live run n stays it. may_be_set live run n c.loop-at.self.generations.items c.loop-at.at c.index_mut.result.now
+      c.let_go.new.self c.index_mut.ensures.value (c.let_go.ensures live run n stays)
+      (c.loop-at.invariant.kept live run n stays it);
 }
 
 pub returns : goal.returns
 returns c = λ es whole are.
     filtered_open es c.args.catalog.now.runs.items c.args.self.now c.loop-at.self.hash
     c.retain.new.self.items c.loop-at.invariant.hash whole.counted.every
-    (λ run n stays it. subst (λ (l : List Generation). MayBeIn l run n)
+    (λ live run n stays it. subst (λ (l : List Generation). MayBeIn live l run n)
     (sym (filter_same _ (λ (g : Generation). not (length g.runs.items == 0)) _ (λ x b f' called. search rules) _ _
-    c.retain.ensures.filtered)) (may_be_in_others run n c.loop-at.self.generations.items
-    (c.loop-at.invariant.kept run n stays it))) are
+    c.retain.ensures.filtered)) (may_be_in_others live run n c.loop-at.self.generations.items
+    (c.loop-at.invariant.kept live run n stays it))) are

@@ -1,4 +1,4 @@
-use Rattle.std.proofs.Common.{◌≡◌, ◌≤◌, ℕ, true, length}
+use Rattle.std.proofs.Common.{◌≡◌, ℕ, Bool, true, length}
 use Rattle.am_index_parts.specs.Catalogs.{parts_of, is_one_of}
 use Rattle.am_index_parts.specs.RunFilters.{MayBeIn}
 use Rattle.am_index_parts.proofs.run_filters.RunFilters.let_go.Given as goal
@@ -7,6 +7,6 @@ abbrev pub invariant-loop-at : goal.invariant-loop-at
 invariant-loop-at l = record {
   hash : l.self.hash ≡ l.fn.self.hash;
   many : length l.self.generations.items ≡ length l.fn.self.generations.items;
-  kept : (run n : ℕ) → is_one_of (parts_of l.catalog.runs.items) run ≡ true →
-      MayBeIn l.fn.self.generations.items run n → MayBeIn l.self.generations.items run n;
+  kept : (live : Bool) (run n : ℕ) → is_one_of (parts_of l.catalog.runs.items) run ≡ true →
+      MayBeIn live l.fn.self.generations.items run n → MayBeIn live l.self.generations.items run n;
 }

@@ -1,7 +1,7 @@
-use Rattle.std.proofs.Common.{ℕ, take}
-use Rattle.am_index_parts.specs.RunFilters.{MayBeIn}
+use Rattle.std.proofs.Common.{◌≡◌, take}
+use Rattle.am_index_parts.specs.RunFilters.{newest_run}
 use Rattle.am_index_parts.proofs.run_filters.RunFilters.newest_run.Given as goal
 
 abbrev pub invariant-loop-at : goal.invariant-loop-at
-invariant-loop-at l = (run : ℕ) → MayBeIn l.self.generations.items run l.number →
-    MayBeIn (take l.at l.self.generations.items) run l.number
+invariant-loop-at l =
+    newest_run l.self.generations.items l.number ≡ newest_run (take l.at l.self.generations.items) l.number
