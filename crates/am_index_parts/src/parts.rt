@@ -428,7 +428,7 @@ impl<I: PartIndex + Drop> Parts<I> {
         ensures rooms { KeepRoom self.old.roomy self.new.roomy self.new.entries }
     {
         let was_live = self.index.set(part, key, value, is_ghost, hint);
-        self.catalog.mark(was_live, is_ghost);
+        self.catalog.mark(part, was_live, is_ghost);
     }
 
     /// Takes an entry out. The caller sees to it that it is there. Takes no memory.

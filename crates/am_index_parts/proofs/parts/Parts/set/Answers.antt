@@ -19,7 +19,7 @@ invariant_of-self g c =
           c.args.is_ghost c.requires.present c.requires.alone c.set-was_live.ensures.set).sound,
       c.self.invariant.1,
       subst (λ es. IsCatalog es c.mark.new.self) (sym c.set-was_live.ensures.set)
-          (c.mark.ensures _ c.args.part c.args.key c.args.value c.self.invariant.2 there
+          (c.mark.ensures _ c.args.key c.args.value c.self.invariant.2 there
           (sym c.set-was_live.ensures.was_live)),
       subst (λ es. AreFiltered es c.self.inside.filters) (sym c.set-was_live.ensures.set)
           (filtered_set c.self.inside.filters (g.I.PartIndex.entries c.self.inside.index) c.self.invariant.3 c.args.part
