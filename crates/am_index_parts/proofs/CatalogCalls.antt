@@ -1,7 +1,7 @@
 -- What each call of the catalog leaves.
-use Rattle.std.proofs.Common.{◌≡◌, ◌≢◌, ℕ, zero, suc, ◌+◌, ◌<◌, ◌≤◌, Bool, true, false, List, [], ◌∷◌, length, get_or}
+use Rattle.std.proofs.Common.{◌≡◌, ◌≢◌, ℕ, zero, suc, ◌<◌, ◌≤◌, Bool, true, false, List, [], ◌∷◌, length, get_or}
 use Rattle.std.proofs.Common.{set, take, drop, Result, Ok, Err, refl, sym, ap, ◌∙◌, subst, ⊎_elim, arith}
-use Rattle.std.specs.Prelude.{IsSome, OnOk, OnErr, IfOk, IfErr, nat_lt}
+use Rattle.std.specs.Prelude.{IsSome, OnOk, OnErr, IfOk, IfErr, nat_lt, not}
 use Rattle.std.specs.Result.{is_ok}
 use Rattle.std.proofs.lemmas.Bool.{cases_lt, ltb-true, lt-ltb, false_from_ne_true}
 use Rattle.std.proofs.lemmas.List.{get_or_default}
@@ -9,10 +9,14 @@ use Rattle.std.specs.List.{AllByRecursion}
 use Rattle.std.specs.List.Sorted.{IsPartitionedBy}
 use Rattle.am_record.specs.OrderedKey.{OrderedKey}
 use Rattle.am_record.specs.declared.entry.Entry.{Entry}
-use Rattle.am_index.specs.Entries.{find, insert_entry, remove_entry}
+use Rattle.am_record.proofs.Lists.{AllByRecursion-at}
+use Rattle.am_index.specs.Entries.{find, insert_entry, remove_entry, set_entry}
 use Rattle.am_index_parts.specs.declared.catalog.OpenRun.{OpenRun}
 use Rattle.am_index_parts.specs.Catalogs.{parts_of, PartsRise, is_one_of, AreListed, IsRunAt, IsGapAt, HasMore}
-use Rattle.am_index_parts.proofs.ListedRuns.{run_more, run_less, below_at, one_at, not_one}
+use Rattle.am_index_parts.specs.Catalogs.{left_in, live_of, HasTurned, IsOpenRun}
+use Rattle.am_index_parts.proofs.Counts.{none_counted}
+use Rattle.am_index_parts.proofs.Alive.{was_live, alive_at_most, some_alive, dead_among_its}
+use Rattle.am_index_parts.proofs.ListedRuns.{run_more, run_less, run_turned, below_at, one_at, not_one, none_at_gap}
 
 -- ---- the search
 
@@ -61,13 +65,15 @@ module _ {runs : List OpenRun} {part i : ℕ} (at : IsRunAt runs part i) (old ne
   pub stands_as : old ≡ get_or runs i new
   stands_as = stands ∙ get_or_default runs i old new at.in_range
 
-  pub more_at : {T E : Type 0} (n : ℕ) (r : Result T E) → part ≢ 0 → OnOk r (HasMore old new)
-      → OnOk r ((es : List Entry) (x : Entry) → x.part ≡ part →
-      AreListed es n runs → AreListed (insert_entry es x) n (set runs i new))
-  more_at n (Ok v) some more = λ es x p h.
-      let has : HasMore (get_or runs i new) new = subst (λ (o : OpenRun). HasMore o new) stands_as more in
+  pub more_at : {T E : Type 0} (n : ℕ) (is_ghost : Bool) (r : Result T E) → part ≢ 0 →
+      OnOk r (HasMore old (not is_ghost) new) → OnOk r ((es : List Entry) (x : Entry) → x.part ≡ part →
+      x.is_ghost ≡ is_ghost → AreListed es n runs → AreListed (insert_entry es x) n (set runs i new))
+  more_at n is_ghost (Ok v) some more = λ es x p mark h.
+      let has : HasMore (get_or runs i new) (not x.is_ghost) new =
+      subst (λ (b : Bool). HasMore (get_or runs i new) (not b) new) (sym mark)
+      (subst (λ (o : OpenRun). HasMore o (not is_ghost) new) stands_as more) in
       run_more h x (omega (arith, p, some)) i new (subst (λ (q : ℕ). IsRunAt runs q i) (sym p) at) has
-  more_at n (Err e) some more = tt
+  more_at n is_ghost (Err e) some more = tt
 
   pub as_before : {T E : Type 0} (n : ℕ) (r : Result T E) → OnErr r (new ≡ old) →
       OnErr r ((es : List Entry) → AreListed es n runs → AreListed es n (set runs i new))
@@ -75,13 +81,21 @@ module _ {runs : List OpenRun} {part i : ℕ} (at : IsRunAt runs part i) (old ne
   as_before n (Err e) same = λ es h.
       subst (AreListed es n) (sym (ap (λ (x : OpenRun). set runs i x) same ∙ set_same runs i old stands)) h
 
-  pub less_at : (n : ℕ) → part ≢ 0 → new.part ≡ old.part → new.left + 1 ≡ old.left → 0 < new.left →
+  pub less_at : (n : ℕ) (lived : Bool) → part ≢ 0 → HasMore new lived old → 0 < new.left →
       (es : List Entry) (key : OrderedKey) → AreListed es n runs → IsSome (find es part key) →
-      AreListed (remove_entry es part key) n (set runs i new)
-  less_at n some p less left = λ es key h there.
-      let is = stands_as in
-      run_less h part key there (omega (arith, some)) i at new (p ∙ ap (λ (o : OpenRun). o.part) is)
-      (less ∙ ap (λ (o : OpenRun). o.left) is) left
+      was_live part key es ≡ lived → AreListed (remove_entry es part key) n (set runs i new)
+  less_at n lived some less left = λ es key h there mark.
+      let has : HasMore new (was_live part key es) (get_or runs i new) =
+      subst (λ (b : Bool). HasMore new b (get_or runs i new)) (sym mark)
+      (subst (λ (o : OpenRun). HasMore new lived o) stands_as less) in
+      run_less h part key there (omega (arith, some)) i at new has left
+
+  pub turned_at : (n : ℕ) (lived : Bool) → part ≢ 0 → HasTurned old lived new → (es : List Entry) (key : OrderedKey)
+      (value : List ℕ) → AreListed es n runs → IsSome (find es part key) → was_live part key es ≡ lived →
+      AreListed (set_entry es part key value lived) n (set runs i new)
+  turned_at n lived some turned = λ es key value h there mark.
+      run_turned h part key value lived there i new (omega (arith, some)) at mark
+      (subst (λ (o : OpenRun). HasTurned o lived new) stands_as turned)
 
 -- ---- the whole catalog
 
@@ -110,8 +124,32 @@ others_apart part (r ∷ rs) (suc i) below above = (
 pub is_listed_as : (runs : List OpenRun) (part : ℕ) (r : Result ℕ ℕ) → IfOk r (IsRunAt runs part) →
     IfErr r (IsGapAt runs part) → is_ok r ≡ is_one_of (parts_of runs) part
 is_listed_as runs part (Ok i) found absent =
-    let d : OpenRun = record { part = 0; left = 0 } in
+    let d : OpenRun = record { part = 0; left = 0; live = 0 } in
     sym (subst (λ (p : ℕ). is_one_of (parts_of runs) p ≡ true) (found.here d) (one_at runs i d found.in_range))
 is_listed_as runs part (Err i) found absent =
     sym (false_from_ne_true (is_one_of (parts_of runs) part)
     (not_one part runs (others_apart part runs i absent.below absent.above)))
+
+-- ---- what a run counts
+
+module _ {es : List Entry} {n : ℕ} {runs : List OpenRun} (h : AreListed es n runs) (part i : ℕ) where
+  module _ (at : IsRunAt runs part i) (r : OpenRun) (is : r ≡ get_or runs i r) where
+    its_run : IsOpenRun es (get_or runs i r)
+    its_run = AllByRecursion-at (IsOpenRun es) runs i r h.each at.in_range
+
+    pub left_here : r.left ≡ left_in part es
+    left_here = ap (λ (o : OpenRun). o.left) is ∙ its_run.exact ∙ ap (λ (p : ℕ). left_in p es) (at.here r)
+
+    pub lives_here : r.live ≡ live_of part es
+    lives_here = ap (λ (o : OpenRun). o.live) is ∙ its_run.live ∙ ap (λ (p : ℕ). live_of p es) (at.here r)
+
+    module _ (key : OrderedKey) (there : IsSome (find es part key)) where
+      pub has_alive : was_live part key es ≡ true → 0 < r.live
+      has_alive lives = omega (arith, lives_here, some_alive part key es there lives)
+
+      pub has_dead : was_live part key es ≡ false → r.live < r.left
+      has_dead dead = omega (arith, left_here, lives_here, dead_among_its part key es there dead)
+
+  -- one that isn't listed has none
+  pub none_lives : IsGapAt runs part i → 0 < part → live_of part es ≡ 0
+  none_lives gap lt = omega (arith, alive_at_most part es, none_counted part es (none_at_gap h part i gap lt))

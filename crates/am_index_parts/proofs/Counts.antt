@@ -15,11 +15,17 @@ use Rattle.am_index.specs.Runs.{run_entries}
 use Rattle.am_index.proofs.Edits.{one_place, find-miss, remove-hit, remove-miss}
 use Rattle.am_index_parts.specs.Catalogs.{left_in}
 
+pub all_if : (a b n : ℕ) → a ≡ b → cond (a == b) n 0 ≡ n
+all_if a b n h = cond-true (a == b) n 0 (eq-eqb a b h)
+
+pub nothing_if : (a b n : ℕ) → a ≢ b → cond (a == b) n 0 ≡ 0
+nothing_if a b n h = cond-false (a == b) n 0 (false_from_ne_true (a == b) (λ yes. h (eqb-true a b yes)))
+
 pub one_if : (a b : ℕ) → a ≡ b → ◌≡◌ {A = ℕ} (cond (a == b) 1 0) 1
-one_if a b h = cond-true (a == b) 1 0 (eq-eqb a b h)
+one_if a b h = all_if a b 1 h
 
 pub none_if : (a b : ℕ) → a ≢ b → ◌≡◌ {A = ℕ} (cond (a == b) 1 0) 0
-none_if a b h = cond-false (a == b) 1 0 (false_from_ne_true (a == b) (λ yes. h (eqb-true a b yes)))
+none_if a b h = nothing_if a b 1 h
 
 -- ---- the changes of the index
 

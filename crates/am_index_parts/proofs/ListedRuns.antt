@@ -1,6 +1,6 @@
 -- The runs that are listed, after each change.
 use Rattle.std.proofs.Common.{◌≡◌, ◌≢◌, ℕ, zero, suc, ◌+◌, ◌-◌, ◌<◌, ◌≤◌, Bool, true, false, cond, List, [], ◌∷◌, ◌++◌}
-use Rattle.std.proofs.Common.{length, get_or, set, take, drop, refl, sym, ap, ◌∙◌, subst, ⊎_elim, arith}
+use Rattle.std.proofs.Common.{length, get_or, set, take, drop, not, refl, sym, ap, ◌∙◌, subst, ⊎_elim, arith}
 use Rattle.std.specs.Prelude.{IsSome, Some, slice_get, ◌==◌}
 use Rattle.std.proofs.lemmas.Bool.{or_left, or_right, or_cases, cases_eq, cases_lt, eqb-true, eq-eqb, false≢true}
 use Rattle.std.proofs.lemmas.List.{length-map}
@@ -13,10 +13,14 @@ use Rattle.am_record.proofs.Lists.{AllByRecursion-map, AllByRecursion-append, Al
 use Rattle.am_index.specs.Entries.{find, insert_entry, set_entry, remove_entry}
 use Rattle.am_index.specs.Runs.{run_entries}
 use Rattle.am_index_parts.specs.declared.catalog.OpenRun.{OpenRun}
-use Rattle.am_index_parts.specs.Catalogs.{left_in, IsOpenRun, parts_of, PartsRise, is_one_of, AreListed, IsRunAt}
+use Rattle.am_index_parts.specs.Catalogs.{left_in, live_of, IsOpenRun, parts_of, PartsRise, is_one_of, AreListed}
+use Rattle.am_index_parts.specs.Catalogs.{IsRunAt}
 use Rattle.am_index_parts.specs.Catalogs.{IsGapAt}
-use Rattle.am_index_parts.specs.Catalogs.{HasMore, IsNext, HasRuns}
-use Rattle.am_index_parts.proofs.Counts.{one_if, none_if, all_inserted, all_removed, all_set, count_inserted}
+use Rattle.am_index_parts.specs.Catalogs.{HasMore, HasTurned, IsNext, HasRuns}
+use Rattle.am_index_parts.proofs.Alive.{one, was_live, alive_inserted, alive_removed, alive_set, alive_append}
+use Rattle.am_index_parts.proofs.Alive.{alive_run, alive_at_most}
+use Rattle.am_index_parts.proofs.Counts.{all_if, nothing_if, one_if, none_if, all_inserted, all_removed, all_set}
+use Rattle.am_index_parts.proofs.Counts.{count_inserted}
 use Rattle.am_index_parts.proofs.Counts.{count_removed}
 use Rattle.am_index_parts.proofs.Counts.{count_set, count_append, count_run, none_in_run, none_counted, none_left}
 
@@ -170,6 +174,14 @@ no_run_at_gap p (r ∷ rs) zero below above = let lt : p < r.part = above.0 in
 no_run_at_gap p (r ∷ rs) (suc i) below above = let lt : r.part < p = below.0 in
     ((λ same. absurd (omega (arith, same, lt))), no_run_at_gap p rs i below.1 above)
 
+-- a run that isn't listed has no entry
+pub none_at_gap : {es : List Entry} {n : ℕ} {runs : List OpenRun} → AreListed es n runs → (part i : ℕ) →
+    IsGapAt runs part i → 0 < part → AllByRecursion (λ (e : Entry). e.part ≢ part) es
+none_at_gap {es} {n} {runs} h part i gap lt =
+    AllByRecursion-map (λ e. 0 < e.part → is_one_of (parts_of runs) e.part ≡ true) (λ e. e.part ≢ part)
+    (λ e was same. not_one part runs (no_run_at_gap part runs i gap.below gap.above)
+    (ap (is_one_of (parts_of runs)) (sym same) ∙ was (omega (arith, same, lt)))) es h.every
+
 -- ---- an entry more
 
 module _ (es : List Entry) (x : Entry) where
@@ -178,9 +190,15 @@ module _ (es : List Entry) (x : Entry) where
     is_run = h.is_run;
     some = h.some;
     exact = omega (arith, h.exact, count_inserted r.part es x, none_if x.part r.part (λ same. other (sym same)));
+    live = omega (
+      arith,
+      h.live,
+      alive_inserted r.part es x,
+      nothing_if x.part r.part (one (not x.is_ghost)) (λ same. other (sym same)),
+    );
   }
 
-  grown : (r s : OpenRun) → r.part ≡ x.part → HasMore r s → IsOpenRun es r →
+  grown : (r s : OpenRun) → r.part ≡ x.part → HasMore r (not x.is_ghost) s → IsOpenRun es r →
       IsOpenRun (insert_entry es x) s
   grown r s here more h = record {
     is_run = omega (arith, more.part, h.is_run);
@@ -189,6 +207,15 @@ module _ (es : List Entry) (x : Entry) where
         let e : r.left + 1 ≡ left_in r.part (insert_entry es x) =
         omega (arith, h.exact, count_inserted r.part es x, one_if x.part r.part (sym here)) in
         more.left ∙ e ∙ ap (λ (p : ℕ). left_in p (insert_entry es x)) (sym more.part);
+    live =
+        let e : r.live + one (not x.is_ghost) ≡ live_of r.part (insert_entry es x) =
+        omega (
+          arith,
+          h.live,
+          alive_inserted r.part es x,
+          all_if x.part r.part (one (not x.is_ghost)) (sym here),
+        ) in
+        more.live ∙ e ∙ ap (λ (p : ℕ). live_of p (insert_entry es x)) (sym more.part);
   }
 
 module _ {es : List Entry} {n : ℕ} {runs : List OpenRun} (h : AreListed es n runs) (x : Entry)
@@ -209,7 +236,7 @@ module _ {es : List Entry} {n : ℕ} {runs : List OpenRun} (h : AreListed es n r
       not_final : ◌≡◌ {A = ℕ} (cond (x.part == 0) 1 0) 0
       not_final = none_if x.part 0 (λ same. absurd (omega (arith, same, lt)))
 
-      pub run_more : (i : ℕ) (s : OpenRun) → IsRunAt runs x.part i → HasMore (get_or runs i s) s →
+      pub run_more : (i : ℕ) (s : OpenRun) → IsRunAt runs x.part i → HasMore (get_or runs i s) (not x.is_ghost) s →
           AreListed (insert_entry es x) n (set runs i s)
       run_more i s at more =
           let same : parts_of (set runs i s) ≡ parts_of runs = parts_set runs i s at.in_range more.part in
@@ -227,24 +254,31 @@ module _ {es : List Entry} {n : ℕ} {runs : List OpenRun} (h : AreListed es n r
           }
 
       pub opened : (i : ℕ) (s : OpenRun) → IsGapAt runs x.part i → s.part ≡ x.part → s.left ≡ 1 →
-          AreListed (insert_entry es x) n (insert runs i s)
-      opened i s gap here one =
+          s.live ≡ one (not x.is_ghost) → AreListed (insert_entry es x) n (insert runs i s)
+      opened i s gap here single lives =
           let others = no_run_at_gap x.part runs i gap.below gap.above in
-          let absent : AllByRecursion (λ (e : Entry). e.part ≢ x.part) es =
-          AllByRecursion-map (λ e. 0 < e.part → is_one_of (parts_of runs) e.part ≡ true) (λ e. e.part ≢ x.part)
-          (λ e was same. not_one x.part runs others (ap (is_one_of (parts_of runs)) (sym same) ∙
-          was (omega (arith, same, lt)))) es h.every in
+          let absent = none_at_gap h x.part i gap lt in
           record {
             counted = omega (arith, h.counted, count_inserted 0 es x, not_final);
             each = all_put (IsOpenRun (insert_entry es x)) runs i s
                 (record {
                   is_run = omega (arith, here, lt);
-                  some = omega (arith, one);
+                  some = omega (arith, single);
                   exact =
                       let none : left_in x.part es ≡ 0 = none_counted x.part es absent in
                       let now : ◌≡◌ {A = ℕ} 1 (left_in x.part (insert_entry es x)) =
                       omega (arith, none, count_inserted x.part es x, one_if x.part x.part refl) in
-                      one ∙ now ∙ ap (λ (p : ℕ). left_in p (insert_entry es x)) (sym here);
+                      single ∙ now ∙ ap (λ (p : ℕ). left_in p (insert_entry es x)) (sym here);
+                  live =
+                      let now : one (not x.is_ghost) ≡ live_of x.part (insert_entry es x) =
+                      omega (
+                        arith,
+                        none_counted x.part es absent,
+                        alive_at_most x.part es,
+                        alive_inserted x.part es x,
+                        all_if x.part x.part (one (not x.is_ghost)) refl,
+                      ) in
+                      lives ∙ now ∙ ap (λ (p : ℕ). live_of p (insert_entry es x)) (sym here);
                 })
                 (moved x.part (IsOpenRun es) (IsOpenRun (insert_entry es x)) (untouched es x) runs others
                 h.each);
@@ -291,6 +325,12 @@ module _ {es : List Entry} {n : ℕ} {runs : List OpenRun} (h : AreListed es n r
         count_removed r.part part key es stands,
         none_if part r.part (λ same. other (sym same)),
       );
+      live = omega (
+        arith,
+        it.live,
+        alive_removed r.part part key es stands,
+        nothing_if part r.part (one (was_live part key es)) (λ same. other (sym same)),
+      );
     }
 
     every_left : AllByRecursion (λ (e : Entry). 0 < e.part → is_one_of (parts_of runs) e.part ≡ true)
@@ -317,13 +357,14 @@ module _ {es : List Entry} {n : ℕ} {runs : List OpenRun} (h : AreListed es n r
       )
 
       -- the run has others left
-      pub run_less : (s : OpenRun) → s.part ≡ (get_or runs i s).part → s.left + 1 ≡ (get_or runs i s).left →
-          0 < s.left → AreListed (remove_entry es part key) n (set runs i s)
-      run_less s here less some =
+      pub run_less : (s : OpenRun) → HasMore s (was_live part key es) (get_or runs i s) → 0 < s.left →
+          AreListed (remove_entry es part key) n (set runs i s)
+      run_less s less some =
           let was = AllByRecursion-at (IsOpenRun es) runs i s h.each at.in_range in
-          let same : parts_of (set runs i s) ≡ parts_of runs = parts_set runs i s at.in_range here in
-          let its : s.part ≡ part = here ∙ at.here s in
+          let same : parts_of (set runs i s) ≡ parts_of runs = parts_set runs i s at.in_range (sym less.part) in
+          let its : s.part ≡ part = sym less.part ∙ at.here s in
           let exact : (get_or runs i s).left ≡ left_in part es = was.exact ∙ ap (λ (p : ℕ). left_in p es) (at.here s) in
+          let alive : (get_or runs i s).live ≡ live_of part es = was.live ∙ ap (λ (p : ℕ). live_of p es) (at.here s) in
           record {
             counted = as_counted;
             each = replaced part (IsOpenRun es) (IsOpenRun (remove_entry es part key)) left_alone runs i s
@@ -333,8 +374,18 @@ module _ {es : List Entry} {n : ℕ} {runs : List OpenRun} (h : AreListed es n r
                   some = some;
                   exact =
                       let now : s.left ≡ left_in part (remove_entry es part key) =
-                      omega (arith, less, exact, count_removed part part key es stands, one_if part part refl) in
+                      omega (arith, less.left, exact, count_removed part part key es stands, one_if part part refl) in
                       now ∙ ap (λ (p : ℕ). left_in p (remove_entry es part key)) (sym its);
+                  live =
+                      let now : s.live ≡ live_of part (remove_entry es part key) =
+                      omega (
+                        arith,
+                        less.live,
+                        alive,
+                        alive_removed part part key es stands,
+                        all_if part part (one (was_live part key es)) refl,
+                      ) in
+                      now ∙ ap (λ (p : ℕ). live_of p (remove_entry es part key)) (sym its);
                 }) h.each;
             every = subst (λ ps. AllByRecursion (λ (e : Entry). 0 < e.part → is_one_of ps e.part ≡ true)
                 (remove_entry es part key)) (sym same) every_left;
@@ -368,28 +419,98 @@ module _ {es : List Entry} {n : ℕ} {runs : List OpenRun} (h : AreListed es n r
             all_both fs every.1 others.1 d,
           )
 
--- ---- other changes
+-- ---- another value at a place, or another ghost bit
 
-pub listed_set : {es : List Entry} {n : ℕ} {runs : List OpenRun} (part : ℕ) (key : OrderedKey)
-    (value : List ℕ) (is_ghost : Bool) → AreListed es n runs →
-    AreListed (set_entry es part key value is_ghost)
-    n runs
-listed_set {es} {n} {runs} part key value is_ghost h = record {
-  counted = h.counted ∙ sym (count_set 0 part key value is_ghost es);
-  each = AllByRecursion-map (IsOpenRun es) (IsOpenRun (set_entry es part key value is_ghost))
-      (λ r it. record {
-        is_run = it.is_run;
-        some = it.some;
-        exact = it.exact ∙ sym (count_set r.part part key value is_ghost es);
-      }) runs h.each;
-  every = all_set (λ p k. 0 < p → is_one_of (parts_of runs) p ≡ true) part key value is_ghost es h.every;
-  rising = h.rising;
-}
+module _ {es : List Entry} {n : ℕ} {runs : List OpenRun} (h : AreListed es n runs) (part : ℕ)
+    (key : OrderedKey) (value : List ℕ) (is_ghost : Bool) (stands : IsSome (find es part key)) where
+  abbrev edited : List Entry
+  edited = set_entry es part key value is_ghost
 
--- a run more after all others
+  -- a run goes on to be counted where as many of its entries are live
+  as_alive : (r : OpenRun) → live_of r.part edited ≡ live_of r.part es → IsOpenRun es r → IsOpenRun edited r
+  as_alive r same it = record {
+    is_run = it.is_run;
+    some = it.some;
+    exact = it.exact ∙ sym (count_set r.part part key value is_ghost es);
+    live = it.live ∙ sym same;
+  }
+
+  alive_beside : (p : ℕ) → p ≢ part → live_of p edited ≡ live_of p es
+  alive_beside p other =
+      let apart : part ≢ p = λ same. other (sym same) in
+      omega (
+        arith,
+        alive_set p part key value is_ghost es stands,
+        nothing_if part p (one (was_live part key es)) apart,
+        nothing_if part p (one (not is_ghost)) apart,
+      )
+
+  every_set : AllByRecursion (λ (e : Entry). 0 < e.part → is_one_of (parts_of runs) e.part ≡ true) edited
+  every_set = all_set (λ p k. 0 < p → is_one_of (parts_of runs) p ≡ true) part key value is_ghost es h.every
+
+  listed_as : ((r : OpenRun) → IsOpenRun es r → live_of r.part edited ≡ live_of r.part es) → AreListed edited n runs
+  listed_as same = record {
+    counted = h.counted ∙ sym (count_set 0 part key value is_ghost es);
+    each = AllByRecursion-map (IsOpenRun es) (IsOpenRun edited) (λ r it. as_alive r (same r it) it) runs h.each;
+    every = every_set;
+    rising = h.rising;
+  }
+
+  -- it is as live as before
+  pub listed_set : was_live part key es ≡ not is_ghost → AreListed edited n runs
+  listed_set same = listed_as (λ r it.
+      let its : cond (part == r.part) (one (was_live part key es)) 0 ≡ cond (part == r.part) (one (not is_ghost)) 0 =
+      ap (λ (b : Bool). cond (part == r.part) (one b) 0) same in
+      omega (arith, its, alive_set r.part part key value is_ghost es stands))
+
+  -- no run has it
+  pub final_set : part ≡ 0 → AreListed edited n runs
+  final_set final = listed_as (λ r it. alive_beside r.part (λ same.
+      let some : 0 < r.part = it.is_run in absurd (omega (arith, same, final, some))))
+
+  -- the run has one more or one less that is live
+  pub run_turned : (i : ℕ) (s : OpenRun) → 0 < part → IsRunAt runs part i → was_live part key es ≡ is_ghost →
+      HasTurned (get_or runs i s) is_ghost s → AreListed edited n (set runs i s)
+  run_turned i s lt at was turned =
+      let r = get_or runs i s in
+      let it = AllByRecursion-at (IsOpenRun es) runs i s h.each at.in_range in
+      let same : parts_of (set runs i s) ≡ parts_of runs = parts_set runs i s at.in_range turned.part in
+      let its : s.part ≡ part = turned.part ∙ at.here s in
+      let exact : r.left ≡ left_in part es = it.exact ∙ ap (λ (p : ℕ). left_in p es) (at.here s) in
+      let alive : r.live ≡ live_of part es = it.live ∙ ap (λ (p : ℕ). live_of p es) (at.here s) in
+      let before : one (was_live part key es) ≡ one is_ghost = ap one was in
+      record {
+        counted = h.counted ∙ sym (count_set 0 part key value is_ghost es);
+        each = replaced part (IsOpenRun es) (IsOpenRun edited) (λ q other. as_alive q (alive_beside q.part other))
+            runs i s h.rising at.in_range (at.here s)
+            (record {
+              is_run = omega (arith, its, lt);
+              some = omega (arith, turned.left, it.some);
+              exact = turned.left ∙ exact ∙ sym (count_set part part key value is_ghost es) ∙
+                  ap (λ (p : ℕ). left_in p edited) (sym its);
+              live =
+                  let now : s.live ≡ live_of part edited =
+                  omega (
+                    arith,
+                    turned.live,
+                    alive,
+                    before,
+                    alive_set part part key value is_ghost es stands,
+                    all_if part part (one (was_live part key es)) refl,
+                    all_if part part (one (not is_ghost)) refl,
+                  ) in
+                  now ∙ ap (λ (p : ℕ). live_of p edited) (sym its);
+            }) h.each;
+        every = subst (λ ps. AllByRecursion (λ (e : Entry). 0 < e.part → is_one_of ps e.part ≡ true) edited) (sym same)
+            every_set;
+        rising = subst PartsRise (sym same) h.rising;
+      }
+
+-- ---- a run more after all others
+
 module _ {es : List Entry} {n : ℕ} {runs : List OpenRun} (h : AreListed es n runs) (part : ℕ)
     (rs : Records) (nxt : IsNext es part rs) (s : OpenRun) (at : s.part ≡ part)
-    (many : s.left ≡ length rs) where
+    (many : s.left ≡ length rs) (lives : s.live ≡ length rs) where
   none_above : (p : ℕ) (fs : List Entry) → part ≤ p → AllByRecursion (λ (e : Entry). e.part < part) fs →
       left_in p fs ≡ 0
   none_above p fs le above = none_counted p fs (AllByRecursion-map (λ e. e.part < part) (λ e. e.part ≢ p)
@@ -413,6 +534,13 @@ module _ {es : List Entry} {n : ℕ} {runs : List OpenRun} (h : AreListed es n r
           count_append r.part es (run_entries part rs),
           none_in_run r.part part rs other,
         );
+        live = omega (
+          arith,
+          was.live,
+          alive_append r.part es (run_entries part rs),
+          alive_at_most r.part (run_entries part rs),
+          none_in_run r.part part rs other,
+        );
       }
 
   new_run : IsOpenRun (es ++ run_entries part rs) s
@@ -429,6 +557,17 @@ module _ {es : List Entry} {n : ℕ} {runs : List OpenRun} (h : AreListed es n r
           none_above part es (omega arith) nxt.above,
         ) in
         now ∙ ap (λ (p : ℕ). left_in p (es ++ run_entries part rs)) (sym at);
+    live =
+        let now : s.live ≡ live_of part (es ++ run_entries part rs) =
+        omega (
+          arith,
+          lives,
+          alive_append part es (run_entries part rs),
+          alive_run part part rs refl,
+          alive_at_most part es,
+          none_above part es (omega arith) nxt.above,
+        ) in
+        now ∙ ap (λ (p : ℕ). live_of p (es ++ run_entries part rs)) (sym at);
   }
 
   -- the run at the end

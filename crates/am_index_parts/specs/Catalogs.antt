@@ -20,11 +20,17 @@ abbrev pub live_in : List Entry → ℕ
 live_in [] = 0
 live_in (e ∷ es) = (if not e.is_ghost then 1 else 0) + live_in es
 
--- the run has entries, just as many as are counted
+-- how many entries of the partition are live
+abbrev pub live_of : ℕ → List Entry → ℕ
+live_of part [] = 0
+live_of part (e ∷ es) = (if e.part == part then (if not e.is_ghost then 1 else 0) else 0) + live_of part es
+
+-- the run has entries, just as many as are counted, and as many live ones
 pub record IsOpenRun (es : List Entry) (run : OpenRun) : Type 0 where
   pub is_run : 0 < run.part
   pub some : 0 < run.left
   pub exact : run.left ≡ left_in run.part es
+  pub live : run.live ≡ live_of run.part es
 
 abbrev pub parts_of : List OpenRun → List ℕ
 parts_of runs = map (λ (r : OpenRun). r.part) runs
@@ -76,10 +82,17 @@ pub record HasCounted (c : Catalog) (part : ℕ) (was_live : Bool) : Type 0 wher
   pub stands : IsSome (find entries part key)
   pub mark : is_some (live_value (find entries part key)) ≡ was_live
 
--- the run with one entry more
-pub record HasMore (old new : OpenRun) : Type 0 where
+-- the run with one entry more, which is live or not
+pub record HasMore (old : OpenRun) (is_live : Bool) (new : OpenRun) : Type 0 where
   pub part : new.part ≡ old.part
   pub left : new.left ≡ old.left + 1
+  pub live : new.live ≡ old.live + (if is_live then 1 else 0)
+
+-- the run in which an entry that was live became a ghost, or a ghost live
+pub record HasTurned (old : OpenRun) (was_live : Bool) (new : OpenRun) : Type 0 where
+  pub part : new.part ≡ old.part
+  pub left : new.left ≡ old.left
+  pub live : new.live + (if was_live then 1 else 0) ≡ old.live + (if not was_live then 1 else 0)
 
 -- the records may follow the entries as a run of that partition
 pub record IsNext (es : List Entry) (part : ℕ) (rs : Records) : Type 0 where

@@ -3,7 +3,7 @@
 ghost use Rattle.std.specs.Prelude.{◌≡◌, ◌+◌, ◌<◌, ◌≤◌, ◌++◌, ◌^◌, ℕ, List, [], ◌∷◌, length, take, drop, true, false};
 ghost use Rattle.std.specs.Prelude.{not, is_some, IsSome, IsTrue, IfSome, IfNone, IfOk, IfErr, OnOk, OnErr, vec_len};
 ghost use Rattle.std.specs.Prelude.{◌↔◌};
-ghost use Rattle.std.specs.Prelude.{vec_capacity};
+ghost use Rattle.std.specs.Prelude.{vec_capacity, nat_lt};
 ghost use Rattle.std.specs.List.{AllByRecursion};
 ghost use Rattle.am_record.specs.OrderedKey.{OrderedKey};
 ghost use Rattle.am_record.specs.Plain.{Records};
@@ -13,7 +13,7 @@ ghost use Rattle.am_index.specs.Content.{live_value};
 ghost use Rattle.am_index.specs.Runs.{run_entries};
 ghost use Rattle.am_index_parts.specs.GoingHome.{IsHome};
 ghost use Rattle.am_index_parts.specs.Catalogs.{parts_of, PartsRise, IsRunAt, IsGapAt, HasCounted, HasMore, IsNext};
-ghost use Rattle.am_index_parts.specs.Catalogs.{runs_in, is_one_of};
+ghost use Rattle.am_index_parts.specs.Catalogs.{runs_in, is_one_of, live_of, HasTurned};
 
 use am_index::Figures;
 use am_record::NoMemory;
@@ -23,18 +23,46 @@ use std::alloc::Global;
 #[derive(Clone, Copy)]
 pub(crate) struct OpenRun {
     pub(crate) part: u32,
-    // How many entries are left in it.
+    // How many entries are left in it, and how many of these are live.
     left: u64,
+    live: u64,
 }
 
 impl OpenRun {
-    fn add(&mut self) -> Result<(), NoMemory>
-        ensures ok { OnOk result (HasMore self.old self.new) }
+    fn add(&mut self, is_live: bool) -> Result<(), NoMemory>
+        ensures ok { OnOk result (HasMore self.old is_live self.new) }
         ensures err { OnErr result (self.new ≡ self.old) }
     {
         // No memory holds 2^64 entries.
-        self.left = self.left.checked_add(1).ok_or(NoMemory)?;
+        let left = self.left.checked_add(1).ok_or(NoMemory)?;
+        let live = self.live.checked_add(u64::from(is_live)).ok_or(NoMemory)?;
+        self.left = left;
+        self.live = live;
         Ok(())
+    }
+
+    // Counts an entry as gone.
+    fn take(&mut self, was_live: bool)
+        requires left { 0 < self.old.left }
+        requires live { was_live ≡ true → 0 < self.old.live }
+        ensures { HasMore self.new was_live self.old }
+    {
+        self.left -= 1;
+        self.live -= u64::from(was_live);
+    }
+
+    // Counts a live entry as a ghost from now on, or a ghost as live.
+    fn turn(&mut self, was_live: bool)
+        requires live { was_live ≡ true → 0 < self.old.live }
+        requires other { was_live ≡ false → self.old.live < self.old.left }
+        ensures { HasTurned self.old was_live self.new }
+    {
+        if was_live {
+            self.live -= 1;
+        } else {
+            prove!(self.live < self.left);
+            self.live += 1;
+        }
     }
 }
 
@@ -88,6 +116,17 @@ impl Catalog {
         search(&self.runs, part).is_ok()
     }
 
+    /// Whether the run has live entries.
+    pub(crate) fn has_live(&self, part: u32) -> bool
+        requires { PartsRise (parts_of self.now.runs.items) }
+        ensures { (es : List Entry) → IsCatalog es self.now → 0 < part → result ≡ nat_lt 0 (live_of part es) }
+    {
+        match search(&self.runs, part) {
+            Ok(at) => self.runs[at].live > 0,
+            Err(_) => false,
+        }
+    }
+
     /// How many runs have entries left.
     pub(crate) fn open_runs(&self) -> usize
         ensures { (es : List Entry) → IsRising es → IsCatalog es self.now → result ≡ runs_in es }
@@ -137,7 +176,7 @@ impl Catalog {
         // No memory holds 2^64 entries.
         let entries = self.entries.checked_add(1).ok_or(NoMemory)?;
         let live = self.live.checked_add(u64::from(!is_ghost)).ok_or(NoMemory)?;
-        self.add_to_part(part)?;
+        self.add_to_part(part, is_ghost)?;
         self.entries = entries;
         self.live = live;
         Ok(())
@@ -165,9 +204,9 @@ impl Catalog {
     }
 
     // Counts an entry in its partition.
-    fn add_to_part(&mut self, part: u32) -> Result<(), NoMemory>
+    fn add_to_part(&mut self, part: u32, is_ghost: bool) -> Result<(), NoMemory>
         requires { PartsRise (parts_of self.old.runs.items) }
-        ensures ok { OnOk result ((es : List Entry) (x : Entry) → x.part ≡ part →
+        ensures ok { OnOk result ((es : List Entry) (x : Entry) → x.part ≡ part → x.is_ghost ≡ is_ghost →
             AreCountedIn es self.old → AreCountedIn (insert_entry es x) self.new) }
         ensures err { OnErr result ((es : List Entry) → AreCountedIn es self.old → AreCountedIn es self.new) }
         ensures all { (self.new.entries ≡ self.old.entries) × (self.new.live ≡ self.old.live) }
@@ -177,41 +216,63 @@ impl Catalog {
             return Ok(());
         }
         match search(&self.runs, part) {
-            Ok(at) => self.runs[at].add(),
-            Err(at) => self.open(at, part),
+            Ok(at) => self.runs[at].add(!is_ghost),
+            Err(at) => self.open(at, part, is_ghost),
         }
     }
 
     // Opens a run of one entry at the index.
-    fn open(&mut self, at: usize, part: u32) -> Result<(), NoMemory>
+    fn open(&mut self, at: usize, part: u32, is_ghost: bool) -> Result<(), NoMemory>
         requires is_run { 0 < part }
         requires gap { IsGapAt self.old.runs.items part at }
-        ensures ok { OnOk result ((es : List Entry) (x : Entry) → x.part ≡ part →
+        ensures ok { OnOk result ((es : List Entry) (x : Entry) → x.part ≡ part → x.is_ghost ≡ is_ghost →
             AreCountedIn es self.old → AreCountedIn (insert_entry es x) self.new) }
         ensures err { OnErr result ((es : List Entry) → AreCountedIn es self.old → AreCountedIn es self.new) }
         ensures all { (self.new.entries ≡ self.old.entries) × (self.new.live ≡ self.old.live) }
     {
-        let run = OpenRun { part, left: 1 };
+        let run = OpenRun {
+            part,
+            left: 1,
+            live: u64::from(!is_ghost),
+        };
         self.runs.insert(at, run)?;
         Ok(())
     }
 
-    /// Counts that an entry is live or a ghost from now on. Takes no memory.
-    pub(crate) fn mark(&mut self, was_live: bool, is_ghost: bool)
-        requires { (part : ℕ) × HasCounted self.old part was_live }
-        ensures { (es : List Entry) (part : ℕ) (key : OrderedKey) (value : List ℕ) → IsCatalog es self.old →
+    /// Counts that an entry of the partition is live or a ghost from now on. Takes no memory.
+    pub(crate) fn mark(&mut self, part: u32, was_live: bool, is_ghost: bool)
+        requires { HasCounted self.old part was_live }
+        ensures { (es : List Entry) (key : OrderedKey) (value : List ℕ) → IsCatalog es self.old →
             IsSome (find es part key) → is_some (live_value (find es part key)) ≡ was_live →
             IsCatalog (set_entry es part key value is_ghost) self.new }
     {
         if was_live != is_ghost {
             return;
         }
-        if is_ghost {
+        self.turn_in_part(part, was_live);
+        if was_live {
             self.live -= 1;
         } else {
             prove!(self.live < self.entries);
             self.live += 1;
         }
+    }
+
+    // Counts a live entry of its partition as a ghost from now on, or a ghost as live.
+    fn turn_in_part(&mut self, part: u32, was_live: bool)
+        requires { HasCounted self.old part was_live }
+        ensures listed { (es : List Entry) (key : OrderedKey) (value : List ℕ) → AreCountedIn es self.old →
+            IsSome (find es part key) → is_some (live_value (find es part key)) ≡ was_live →
+            AreCountedIn (set_entry es part key value was_live) self.new }
+        ensures all { (self.new.entries ≡ self.old.entries) × (self.new.live ≡ self.old.live) }
+    {
+        if part == 0 {
+            return;
+        }
+        let Ok(at) = search(&self.runs, part) else {
+            unreachable!()
+        };
+        self.runs[at].turn(was_live);
     }
 
     /// Counts an entry of the partition as gone. A run without entries leaves. Takes no memory.
@@ -229,7 +290,8 @@ impl Catalog {
     fn take_from_part(&mut self, part: u32, was_live: bool)
         requires counted { HasCounted self.old part was_live }
         ensures listed { (es : List Entry) (key : OrderedKey) → AreCountedIn es self.old →
-            IsSome (find es part key) → AreCountedIn (remove_entry es part key) self.new }
+            IsSome (find es part key) → is_some (live_value (find es part key)) ≡ was_live →
+            AreCountedIn (remove_entry es part key) self.new }
         ensures all { (self.new.entries ≡ self.old.entries) × (self.new.live ≡ self.old.live) }
     {
         if part == 0 {
@@ -240,7 +302,7 @@ impl Catalog {
             unreachable!()
         };
         if self.runs[at].left > 1 {
-            self.runs[at].left -= 1;
+            self.runs[at].take(was_live);
             return;
         }
         let _ = self.runs.remove(at);
@@ -270,7 +332,12 @@ impl Catalog {
             IsCatalog (es ++ run_entries part rs) self.new }
     {
         let left = entries as u64;
-        let Ok(()) = self.runs.push(OpenRun { part, left }) else {
+        let run = OpenRun {
+            part,
+            left,
+            live: left,
+        };
+        let Ok(()) = self.runs.push(run) else {
             unreachable!()
         };
         self.entries += left;

@@ -179,7 +179,7 @@ fn settle<I: PartIndex + Drop>(
     }
     index.make_room(0, entry.key, entry.value.len(), hint)?;
     let was_live = index.set(0, entry.key, entry.value, false, hint);
-    catalog.mark(was_live, false);
+    catalog.mark(0, was_live, false);
     Ok(())
 }
 

@@ -5,7 +5,7 @@ use Rattle.am_record.specs.declared.entry.Entry.{Entry}
 use Rattle.am_record.proofs.Outcomes.{on_err, OnErr-from}
 use Rattle.am_index.specs.Entries.{slot_of, find, insert_entry, remove_entry}
 use Rattle.am_index.proofs.Edits.{entry_at_inserted, insert_back}
-use Rattle.am_index.specs.Rooms.{HasRoom, HaveRoom}
+use Rattle.am_index.specs.Rooms.{HasRoom}
 use Rattle.am_index.proofs.Rooms.{keep_on}
 use Rattle.am_index_parts.specs.Catalogs.{IsCatalog}
 use Rattle.am_index_parts.proofs.HomeRooms.{needs_where_none}

@@ -9,7 +9,7 @@ returns-clause-ok c = λ es x p mark whole.
     let all : c.in_ok-entries.entries ≡ c.args.self.now.entries + 1 = search rules in
     let alive : c.in_ok-live.live ≡ c.args.self.now.live + one (not c.args.is_ghost) = search rules in
     record {
-      counted = c.in_ok-add_to_part.ensures.ok es x p whole.counted;
+      counted = c.in_ok-add_to_part.ensures.ok es x p mark whole.counted;
       all = record {
         entries = omega (arith, all, whole.all.entries, length_inserted es x);
         live = omega (arith, alive, its, whole.all.live, live_inserted es x);

@@ -1,4 +1,4 @@
-use Rattle.std.proofs.Common.{◌≡◌, List, ap, ◌∙◌}
+use Rattle.std.proofs.Common.{List, ap, ◌∙◌}
 use Rattle.am_index_parts.specs.declared.catalog.OpenRun.{OpenRun}
 use Rattle.am_index_parts.specs.Catalogs.{parts_of, is_one_of}
 use Rattle.am_index_parts.proofs.CatalogCalls.{is_listed_as}

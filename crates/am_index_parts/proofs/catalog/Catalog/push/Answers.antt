@@ -8,7 +8,8 @@ use Rattle.am_index_parts.proofs.catalog.Catalog.push.Goals as goal
 pub returns : goal.returns
 returns c = λ es rs many whole nxt. record {
   counted = subst (AreListed _ _) (sym c.in-Ok.ensures.items)
-      (appended whole.counted c.args.part rs nxt (record { part = c.args.part; left = c.args.entries }) refl many);
+      (appended whole.counted c.args.part rs nxt
+      (record { part = c.args.part; left = c.args.entries; live = c.args.entries }) refl many many);
   all = record {
     entries = omega (
       arith,

@@ -31,7 +31,7 @@ returns c = λ es key whole there mark.
     let its : one (was_live c.args.part key es) ≡ one c.args.was_live = ap one mark in
     let byte : c.from.result ≡ one c.args.was_live = c.from.ensures ∙ byte_is c.args.was_live in
     record {
-      counted = c.take_from_part.ensures.listed es key whole.counted there;
+      counted = c.take_from_part.ensures.listed es key whole.counted there mark;
       all = record {
         entries = omega (
           arith,

@@ -1,11 +1,11 @@
-use Rattle.std.proofs.Common.{◌≡◌, ◌<◌, ◌-◌, ℕ, sym, ap, ◌∙◌, subst, refl, arith}
+use Rattle.std.proofs.Common.{◌≡◌, ◌<◌, ℕ, sym, ap, ◌∙◌, subst, arith}
 use Rattle.std.proofs.lemmas.List.{get_or_default}
 use Rattle.std.specs.Prelude.{IsSome}
 use Rattle.am_index.specs.Entries.{find}
 use Rattle.am_index_parts.specs.declared.catalog.OpenRun.{OpenRun}
 use Rattle.am_index_parts.specs.Catalogs.{AreListed, IsRunAt, IsGapAt}
 use Rattle.am_index_parts.proofs.ListedRuns.{is_listed, not_one, no_run_at_gap, run_gone, some_left, final_less}
-use Rattle.am_index_parts.proofs.CatalogCalls.{less_at}
+use Rattle.am_index_parts.proofs.CatalogCalls.{less_at, has_alive}
 use Rattle.am_index_parts.proofs.catalog.Catalog.take_from_part.Goals as goal
 
 pub unreachable-requires : goal.unreachable-requires
@@ -17,6 +17,13 @@ unreachable-requires c =
     (is_listed c.requires.counted.catalog.counted c.args.part c.requires.counted.key
     (omega (arith, c.if-part-eq0.false)) c.requires.counted.stands)
 
+pub take-requires-clause-live : goal.take-requires-clause-live
+take-requires-clause-live c = λ lives.
+    let it = c.requires.counted in
+    let at = subst (λ l. IsRunAt l c.args.part c.in-Ok.at) c.deref.ensures.value c.in-Ok.ensures.found in
+    has_alive it.catalog.counted c.args.part c.in-Ok.at at c.index_mut.result.now c.index_mut.ensures.value it.key
+    it.stands (it.mark ∙ lives)
+
 pub returns-then-index-gt1-clause-listed : goal.returns-then-index-gt1-clause-listed
 returns-then-index-gt1-clause-listed c =
     let at = subst (λ l. IsRunAt l c.args.part c.in-Ok.at) c.deref.ensures.value c.in-Ok.ensures.found in
@@ -25,11 +32,11 @@ returns-then-index-gt1-clause-listed c =
     ap (λ (r : OpenRun). r.left) (c.index_mut.ensures.value ∙ get_or_default c.args.self.now.runs.items c.in-Ok.at
     old c.index.result.now at.in_range ∙ sym c.index.ensures) in
     let many : 1 < old.left = omega (arith, same, c.if-index-gt1.true) in
-    less_at at old (record { part = old.part; left = old.left - 1 }) c.index_mut.ensures.value
-    c.args.self.now.in_final c.if-part-eq0.false refl (omega (arith, many)) (omega (arith, many))
+    less_at at old c.take.new.self c.index_mut.ensures.value c.args.self.now.in_final c.args.was_live
+    c.if-part-eq0.false c.take.ensures (omega (arith, many, c.take.ensures.left))
 
 pub returns-clause-listed : goal.returns-clause-listed
-returns-clause-listed c = λ es key h stands.
+returns-clause-listed c = λ es key h stands mark.
     let at = subst (λ l. IsRunAt l c.args.part c.in-Ok.at) c.deref.ensures.value c.in-Ok.ensures.found in
     subst (AreListed _ _) (sym c.remove.ensures.items)
     (run_gone h c.args.part key stands (omega (arith, c.if-part-eq0.false)) c.in-Ok.at at c.index.result.now
@@ -43,4 +50,4 @@ overflow_sub-self c =
     omega (arith, some_left it.catalog.counted 0 it.key stands, it.catalog.counted.counted)
 
 pub returns-then-part-eq0-clause-listed : goal.returns-then-part-eq0-clause-listed
-returns-then-part-eq0-clause-listed c = λ es key h stands. final_less h c.args.part key stands c.if-part-eq0.true
+returns-then-part-eq0-clause-listed c = λ es key h stands mark. final_less h c.args.part key stands c.if-part-eq0.true
