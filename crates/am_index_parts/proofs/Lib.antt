@@ -12,6 +12,7 @@ pub mod KeyLooks
 pub mod Lives
 mod MergedKnowledge
 pub mod Filters
+pub mod RunNumbers
 mod Homes
 mod Changes
 mod StandingEntries

@@ -17,6 +17,7 @@ mod merged_ranges;
 mod parts;
 mod run_entry;
 mod run_filters;
+mod run_numbers;
 mod way_home;
 
 pub use fault::RunFault;
