@@ -15,7 +15,7 @@ invariant_of-self g c =
     subst (λ (p : Partitions). IsSome (find p.entries c.args.part c.args.key)) (sym c.self.view_is)
     c.requires.present in
     let counted : IsCatalog (set_entry (g.I.PartIndex.entries c.self.inside.index) c.args.part c.args.key c.args.value
-    c.args.is_ghost) c.mark.new.self = c.mark.ensures _ c.args.part c.args.key c.args.value c.self.invariant.2 there
+    c.args.is_ghost) c.mark.new.self = c.mark.ensures _ c.args.key c.args.value c.self.invariant.2 there
     (sym c.set-was_live.ensures.was_live) in (
       (marks (ap (λ (p : Partitions). p.entries) c.self.view_is) c.self.invariant.0 c.args.part c.args.key c.args.value
           c.args.is_ghost c.requires.present c.requires.alone c.set-was_live.ensures.set).sound,
@@ -40,6 +40,6 @@ set-requires g c =
     subst (λ (p : Partitions). IsSome (find p.entries c.args.part c.args.key)) (sym c.self.view_is)
     c.requires.present in (
       set_entry (g.I.PartIndex.entries c.self.inside.index) c.args.part c.args.key c.args.value c.args.is_ghost,
-      c.mark.ensures _ c.args.part c.args.key c.args.value c.self.invariant.2 there
+      c.mark.ensures _ c.args.key c.args.value c.self.invariant.2 there
           (sym c.set-was_live.ensures.was_live),
     )
