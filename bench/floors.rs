@@ -1,6 +1,6 @@
-//! What the goals cost any program of these layouts: the same records in leaves of 32, a table of words by keys' numbers, and runs
-//! that each have the first keys of their leaves in an array. It has no transactions, takes no key twice, and proves nothing. Each
-//! figure is told beside the store's own, of the same run. Built and run by bench/floors.
+//! What the goals cost any program of these layouts: the same records in leaves of 32, filters of keys' numbers, and runs that each
+//! have the first keys of their leaves in an array. It has no transactions, searches for no key that filters may have, and proves
+//! nothing. Each figure is told beside the store's own, of the same run. Built and run by bench/floors.
 
 // (some fields only take the room that they take in the store)
 #![allow(dead_code)]
@@ -56,17 +56,28 @@ struct Run {
     leaves: Vec<Leaf>,
 }
 
-/// A word for each key, by the key's number, in pieces that grow by themselves.
-struct Table {
-    pieces: Vec<Piece>,
-}
-
-struct Piece {
+/// A word for each four numbers, in which each has five bits.
+struct Filter {
     words: Vec<u64>,
-    count: usize,
 }
 
-const PIECES: usize = 256;
+/// So many runs at most: a filter of all their keys, and one of each.
+struct Generation {
+    all: Filter,
+    room: usize,
+    entered: usize,
+    runs: Vec<Filter>,
+}
+
+/// Which keys may be there, by their numbers. Each generation has room for a multiple of what the one before took in.
+struct Filters {
+    generations: Vec<Generation>,
+}
+
+const NUMBERS_A_WORD: usize = 4;
+const RUNS_A_GENERATION: usize = 64;
+const FEWEST: usize = 1024;
+const GROWTH: usize = 2;
 
 fn front(key: &Text) -> u64 {
     u64::from_be_bytes(key[..8].try_into().unwrap())
@@ -78,48 +89,77 @@ fn number(key: &Text) -> u64 {
     ((mixed >> 64) as u64 ^ mixed as u64) | 1
 }
 
-impl Table {
-    fn new() -> Table {
-        Table { pieces: (0..PIECES).map(|_| Piece { words: vec![0; 64], count: 0 }).collect() }
+fn marks(number: u64) -> u64 {
+    (0..5).fold(0, |marks, at| marks | 1 << (number >> (6 * at) & 63))
+}
+
+impl Filter {
+    fn new(numbers: usize) -> Filter {
+        Filter { words: vec![0; numbers / NUMBERS_A_WORD + 1] }
     }
 
-    /// Enters numbers, so many looked at ahead.
+    fn place(&self, number: u64) -> usize {
+        ((number >> 32) * self.words.len() as u64 >> 32) as usize
+    }
+
+    fn may_have(&self, number: u64, marks: u64) -> bool {
+        self.words[self.place(number)] & marks == marks
+    }
+
     fn enter(&mut self, numbers: &[u64]) {
-        for some in numbers.chunks(AHEAD) {
-            let mut seen = 0;
-            for number in some {
-                let piece = &self.pieces[(number >> 56) as usize];
-                seen |= piece.words[piece.home(*number)];
-            }
-            black_box(seen);
-            for number in some {
-                self.pieces[(number >> 56) as usize].enter(*number);
-            }
+        for number in numbers {
+            let place = self.place(*number);
+            self.words[place] |= marks(*number);
         }
     }
 }
 
-impl Piece {
-    fn home(&self, number: u64) -> usize {
-        (number >> 8) as usize & (self.words.len() - 1)
+impl Filters {
+    fn new() -> Filters {
+        Filters { generations: Vec::new() }
     }
 
-    fn enter(&mut self, number: u64) {
-        if self.count * 10 > self.words.len() * 7 {
-            let old = std::mem::take(&mut self.words);
-            self.words = vec![0; 2 * old.len()];
-            old.into_iter().filter(|word| *word != 0).for_each(|word| self.put(word));
+    fn reserve(&mut self, numbers: usize) {
+        let newest = self.generations.last();
+        if newest.is_some_and(|it| it.room >= numbers && it.runs.len() < RUNS_A_GENERATION) {
+            return;
         }
-        self.put(number);
-        self.count += 1;
+        let room = numbers.max(FEWEST).max(newest.map_or(0, |it| GROWTH * it.entered));
+        self.generations.push(Generation { all: Filter::new(room), room, entered: 0, runs: Vec::new() });
     }
 
-    fn put(&mut self, word: u64) {
-        let mut at = self.home(word);
-        while self.words[at] != 0 && self.words[at] != word {
-            at = (at + 1) & (self.words.len() - 1);
+    /// In how many runs some of the numbers may be. So many are asked for at once, of all generations.
+    fn ask(&self, numbers: &[u64]) -> usize {
+        let mut found = 0;
+        for some in numbers.chunks(AHEAD) {
+            let mut sought = [0; AHEAD];
+            for (sought, number) in sought.iter_mut().zip(some) {
+                *sought = marks(*number);
+            }
+            for generation in &self.generations {
+                let mut maybe = 0_u32;
+                for (at, number) in some.iter().enumerate() {
+                    maybe |= u32::from(generation.all.may_have(*number, sought[at])) << at;
+                }
+                while maybe != 0 {
+                    let at = maybe.trailing_zeros() as usize;
+                    found += generation.runs.iter().filter(|run| run.may_have(some[at], sought[at])).count();
+                    maybe &= maybe - 1;
+                }
+            }
         }
-        self.words[at] = word;
+        found
+    }
+
+    /// Enters numbers as those of one run, for which there is room.
+    fn enter(&mut self, numbers: &[u64]) {
+        let newest = self.generations.last_mut().unwrap();
+        newest.all.enter(numbers);
+        newest.room -= numbers.len();
+        newest.entered += numbers.len();
+        let mut run = Filter::new(numbers.len());
+        run.enter(numbers);
+        newest.runs.push(run);
     }
 }
 
@@ -133,28 +173,26 @@ fn order(batch: &[Record]) -> Vec<(u64, u32)> {
     order
 }
 
-fn run_of(part: u32, batch: &[Record], table: &mut Table, is_sorted: bool) -> Run {
+fn run_of(part: u32, batch: &[Record], filters: &mut Filters, is_sorted: bool) -> Run {
     let order = if is_sorted { (0..batch.len() as u32).map(|at| (0, at)).collect() } else { order(batch) };
     let mut run = Run { fronts: Vec::new(), leaves: Vec::new() };
-    let mut numbers = Vec::with_capacity(batch.len());
+    let numbers: Vec<u64> = batch.iter().map(|record| number(&record.0)).collect();
+    filters.reserve(numbers.len());
+    black_box(filters.ask(&numbers));
     let mut least = [0; 16];
-    let mut words: Vec<u64> = Vec::with_capacity(batch.len());
     for some in order.chunks(LEAF) {
         let mut leaf = Leaf { places: Box::new([Place(0, [0; 16], 0); LEAF]), values: Box::new([Value([0; 16], 0); LEAF]), len: some.len() };
         for (to, (_, at)) in some.iter().enumerate() {
             let (key, value) = batch[*at as usize];
             assert!(least < key);
             least = key;
-            numbers.push(number(&key));
             leaf.places[to] = Place(part, key, 16);
             leaf.values[to] = Value(value, 16);
         }
         run.fronts.push(front(&leaf.places[0].1));
         run.leaves.push(leaf);
     }
-    table.enter(&numbers);
-    words.extend(numbers.iter().map(|number| number >> 32));
-    black_box(&words);
+    filters.enter(&numbers);
     run
 }
 
@@ -285,8 +323,8 @@ fn loads(records: &[Record], is_sorted: bool, what: &str) {
         let mut ours = Store::open();
         store.push(per_record * seconds(|| ours.load(records.chunks(MILLION / RUNS))).0);
         drop(ours);
-        let mut table = Table::new();
-        let load = || (1..).zip(records.chunks(MILLION / RUNS)).map(|(part, batch)| run_of(part, batch, &mut table, is_sorted)).collect::<Vec<_>>();
+        let mut filters = Filters::new();
+        let load = || (1..).zip(records.chunks(MILLION / RUNS)).map(|(part, batch)| run_of(part, batch, &mut filters, is_sorted)).collect::<Vec<_>>();
         floor.push(per_record * seconds(load).0);
         let build = || {
             let mut all = records.to_vec();
@@ -317,13 +355,13 @@ fn main() {
     records.sort_unstable();
     loads(&records, true, "a million that rise");
     drop(records);
-    let (mut store, mut table, mut runs, mut keys) = (Store::open(), Table::new(), Vec::new(), Vec::new());
+    let (mut store, mut filters, mut runs, mut keys) = (Store::open(), Filters::new(), Vec::new(), Vec::new());
     let (mut ours, mut floor) = (Vec::new(), Vec::new());
     for part in 1..=BATCHES {
         let batch: Vec<Record> = (0..BATCH).map(|n| (text(numbers.next()), text((part * BATCH + n) as u64))).collect();
         keys.extend(batch.iter().map(|record| record.0));
         ours.push(1e3 * seconds(|| store.load([&batch[..]].into_iter())).0);
-        let (time, run) = seconds(|| run_of(part as u32, &batch, &mut table, false));
+        let (time, run) = seconds(|| run_of(part as u32, &batch, &mut filters, false));
         floor.push(1e3 * time);
         runs.push(run);
         if part == RUNS {

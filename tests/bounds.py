@@ -160,12 +160,12 @@ def scans_with_room_to_spare() -> None:
 
 
 def memory_of_rounds(merges: bool) -> int:
-    """How many KB a store has grown by while 3,000 records were loaded, deleted and cleaned 80 times, each time others. They are
+    """How many KB a store has grown by while 3,000 records were loaded, deleted and cleaned 140 times, each time others. They are
     deleted where they were loaded, or first merged into the final partition."""
     with subprocess.Popen([AMSERVE, "alone", "--auto", "0"], stdin=subprocess.PIPE, stdout=subprocess.PIPE) as process:
         assert process.stdin and process.stdout
         sizes = []
-        for number in range(100):
+        for number in range(161):
             keys = [f"{number:03}{at:04}" for at in range(3000)]
             lines = ["BEGIN", "LOCK X ! ~"]
             lines += ["STAGE " + " ".join(f"{key}=v" for key in keys[at : at + 300]) for at in range(0, 2700, 300)]
@@ -176,7 +176,7 @@ def memory_of_rounds(merges: bool) -> int:
             lines += [*(f"DEL {key}" for key in keys), "COMMIT", *["CLEAN ! ~ 64"] * 48]
             answers = asked(process, lines)
             wanted("what is cleaned", sum(int(answer.split()[1]) for answer in answers if answer.startswith("CLEANED ")), 3000)
-            if number in (20, 99):
+            if number in (20, 160):
                 with open(f"/proc/{process.pid}/status", encoding="ascii") as status:
                     sizes.append(next(int(line.split()[1]) for line in status if line.startswith("VmRSS:")))
         process.stdin.close()
@@ -199,13 +199,13 @@ def asked(process: "subprocess.Popen[bytes]", lines: List[str]) -> List[str]:
     return answers
 
 
-def words_of_records_that_left() -> None:
+def filters_of_records_that_left() -> None:
     """A store that loads, deletes and cleans again and again keeps nothing of what it cleaned."""
     for merges in (False, True):
-        # (a word for each of 240,000 keys, in a table that has room, is 2.4 MB at least)
+        # (the filters of 420,000 keys, of their runs and of generations, are 1.7 MB at least)
         grown = memory_of_rounds(merges)
         if grown > 1500:
-            fail(f"{grown} KB more after 80 rounds of loads, deletions and cleaning")
+            fail(f"{grown} KB more after 140 rounds of loads, deletions and cleaning")
 
 
 def marks_of(number: int, records: int) -> str:
@@ -252,7 +252,7 @@ def main() -> None:
         nested_marks(folder)
         full_session(folder)
     scans_with_room_to_spare()
-    words_of_records_that_left()
+    filters_of_records_that_left()
     print("bounds: all as expected")
 
 

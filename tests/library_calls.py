@@ -188,6 +188,59 @@ def ghosts_in_many_runs() -> None:
     tiuvrokk.upkeep(True)
 
 
+def fresh_keys(rng: random.Random, count: int) -> List[bytes]:
+    return sorted({rng.randbytes(16) for _ in range(count)})
+
+
+def looks_and_load(store: tiuvrokk.Store, looked_for: List[bytes], new: List[bytes]) -> Tuple[float, float]:
+    """The seconds of looks for some keys, of which each second one has a record, and of a load of new ones."""
+    began = time.process_time()
+    for half in (looked_for[::2], looked_for[1::2]):
+        with store.transaction() as tx:
+            tx.lock(b"", LAST)
+            found = sum(tx.get(key) is not None for key in half)
+        assert found == (len(half) if half[0] == looked_for[0] else 0)
+    between = time.process_time()
+    with store.transaction() as tx:
+        assert tx.load((key, b"1") for key in new) == len(new)
+    return between - began, time.process_time() - between
+
+
+def refused_and_aborted(store: tiuvrokk.Store, keys: List[bytes], others: List[bytes]) -> None:
+    """A transaction that deletes all records but the last, is refused to load a thousand of the keys at a time beside that one,
+    loads others, and is aborted."""
+    tx = store.transaction()
+    tx.lock(b"", LAST, exclusive=True)
+    assert tx.delete_range(hi=LAST[1:]) == store.entries() - 1
+    for at in range(0, len(keys), 1000):
+        again = [(key, b"2") for key in [*keys[at : at + 1000], LAST]]
+        assert expect(tiuvrokk.Exists, tx.load, again).key == LAST
+    assert tx.load((key, b"3") for key in others) == len(others)
+    tx.abort()
+
+
+def looks_behind_refusals(rng: random.Random) -> None:
+    """Whatever was refused and aborted before, beside 300 runs, looks and a load take what they took: no more than five times as
+    long, by the least of five tries."""
+    tiuvrokk.upkeep(False)
+    before: List[Tuple[float, float]] = []
+    behind: List[Tuple[float, float]] = []
+    for _ in range(5):
+        keys, others, single = fresh_keys(rng, 20_000), fresh_keys(rng, 15_000), fresh_keys(rng, 300)
+        looked_for = [key for pair in zip(keys[::8], others[::6]) for key in pair]
+        with tiuvrokk.Store() as store:
+            with store.transaction() as tx:
+                tx.lock(b"", LAST, exclusive=True)
+                assert tx.load((key, b"1") for key in keys) == len(keys)
+                assert tx.load(((key, b"1") for key in [*single, LAST]), run=1) == 301
+            before.append(looks_and_load(store, looked_for, fresh_keys(rng, 2000)))
+            refused_and_aborted(store, keys, others)
+            behind.append(looks_and_load(store, looked_for, fresh_keys(rng, 2000)))
+    for took, takes in zip(zip(*before), zip(*behind)):
+        assert min(takes) < 5 * min(took), (took, takes)
+    tiuvrokk.upkeep(True)
+
+
 # Ten times as many records as other tests have.
 MILLIONS = 3_000_000
 
@@ -216,6 +269,7 @@ def main(calls: int, seed: int) -> None:
     chosen_keys(rng)
     many_loads(rng)
     ghosts_in_many_runs()
+    looks_behind_refusals(rng)
     keys = sorted({rng.randbytes(rng.randrange(33)) for _ in range(120)})
     committed: Records = {}
     done = commits = 0

@@ -7,13 +7,11 @@ from typing import Dict, Iterator, List, Set
 from tree import TOP, sources, text_of
 
 LIMITS = "crates/am_record/specs/Limits.antt"
-# Crates where such a number is another thing: a line's bytes, connections that wait, the codes of a word, a port.
+# Crates where such a number is another thing: a line's bytes, connections that wait, a port.
 OTHER_MEANINGS: Dict[str, Set[str]] = {
     "am_line_source": {"4096"},
     "am_serve_connections": {"1000", "4096"},
     "am_store_locks": {"65535", "65536"},
-    "am_index_directory": {"65535"},
-    "am_index_parts": {"65536"},
     "am_index_btree": {"65535"},
     "am_program_options": {"65535"},
 }

@@ -1,10 +1,9 @@
 use crate::{Parts, RunFault};
-use am_index_directory::Residence;
 use am_index_list::{ListIndex, Tight};
 use am_record::{HashKey, Key, Value};
 use std::test::Fail;
 
-// A load that the index refuses is forgotten: a look for its keys then begins at no run.
+// A load that the index refuses leaves none of its keys, and comes in at the next try.
 #[test]
 fn a_refused_load_leaves_no_key(rt: HostRuntime) -> Result<(), Fail> {
     let alloc = rt.alloc();
@@ -15,28 +14,45 @@ fn a_refused_load_leaves_no_key(rt: HostRuntime) -> Result<(), Fail> {
     let pairs = keys.map(|key| (key, value));
     assert!(rt; parts.append_run(&pairs) == Err(RunFault::NoMemory));
     for key in keys {
-        assert!(rt; parts.residences.of(key) == Residence::Nowhere);
+        assert!(rt; parts.place_of(key).is_none());
     }
     assert!(rt; parts.append_run(&pairs) == Ok(()));
     for key in keys {
-        assert!(rt; parts.residences.of(key) == Residence::In(1));
+        assert!(rt; parts.place_of(key) == Some(1));
     }
     Ok(())
 }
 
-// A load has room for all of its keys, and is told of each.
+// More runs than a generation has, each of whose keys is found in its run, and no other.
 #[test]
-fn a_load_gets_room_for_its_keys(rt: HostRuntime) -> Result<(), Fail> {
+fn keys_are_found_in_their_runs(rt: HostRuntime) -> Result<(), Fail> {
     let alloc = rt.alloc();
     let mut parts = Parts::new(alloc, ListIndex::new(alloc), HashKey::known());
     let value = Value::new(b"a").ok_or("a value")?;
-    let mut pairs = Vec::new(alloc);
-    for number in 0..300 {
-        pairs.push((Key::of_u64(number), value))?;
+    for run in 0..150 {
+        let keys = [3 * run, 3 * run + 1].map(Key::of_u64);
+        assert!(rt; parts.append_run(&keys.map(|key| (key, value))) == Ok(()));
     }
-    assert!(rt; parts.append_run(&pairs) == Ok(()));
-    for pair in &pairs {
-        assert!(rt; parts.residences.of(pair.0) == Residence::In(1));
+    for run in 0..150 {
+        assert!(rt; parts.place_of(Key::of_u64(3 * run)) == Some(1 + run as u32));
+        assert!(rt; parts.place_of(Key::of_u64(3 * run + 1)) == Some(1 + run as u32));
+        assert!(rt; parts.place_of(Key::of_u64(3 * run + 2)).is_none());
     }
+    Ok(())
+}
+
+// A key of an old run is found by a load, however many generations came after it.
+#[test]
+fn a_taken_key_of_an_old_run_is_told(rt: HostRuntime) -> Result<(), Fail> {
+    let alloc = rt.alloc();
+    let mut parts = Parts::new(alloc, ListIndex::new(alloc), HashKey::known());
+    let value = Value::new(b"a").ok_or("a value")?;
+    for run in 0..150 {
+        assert!(rt; parts.append_run(&[(Key::of_u64(2 * run), value)]) == Ok(()));
+    }
+    let pairs = [1, 2, 3].map(|key| (Key::of_u64(key), value));
+    assert!(rt; parts.append_run(&pairs) == Err(RunFault::Taken));
+    assert!(rt; parts.place_of(Key::of_u64(1)).is_none());
+    assert!(rt; parts.runs() == 150);
     Ok(())
 }

@@ -1,4 +1,4 @@
-//! Worked examples of the crates: of records, indexes, partitions, directories, loads, scans, locks, what is undone, transactions,
+//! Worked examples of the crates: of records, indexes, partitions, filters, loads, scans, locks, what is undone, transactions,
 //! merges, the plain map, structs of C, lines, replies, streams, stored traces with their audits and command lines; of steps and
 //! lines that take several crates; of a long history; and of seats, words and workers on threads, clients of a server, and replicas.
 //!
@@ -13,9 +13,9 @@ mod cleaning;
 mod commands;
 mod counters;
 mod desks;
-mod directory;
 mod entries;
 mod failing;
+mod filters;
 mod following;
 mod given;
 mod history;

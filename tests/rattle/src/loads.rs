@@ -316,9 +316,9 @@ fn a_load_refused_memory_leaves_the_entries(rt: HostRuntime) {
     }
 }
 
-// Runs 1 and 65,537 are one to the directory.
+// A run is told from the one 65,536 runs before it.
 #[test]
-fn runs_share_a_place(rt: HostRuntime) {
+fn a_late_run_is_another(rt: HostRuntime) {
     let mut parts = no_entries(rt.alloc());
     let first = run_with(&rt, rt.alloc(), &[pair(1, b'a')]);
     let later = run_with(&rt, rt.alloc(), &[pair(2, b'b')]);
