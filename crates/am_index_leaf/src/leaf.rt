@@ -10,6 +10,7 @@ ghost use Rattle.am_index.specs.Entries.{first_such, IsRising};
 ghost use Rattle.am_index.specs.Places.{IsPlaceOf, IsGapFor};
 ghost use Rattle.am_index.specs.Runs.{run_entries};
 ghost use Rattle.am_index_leaf.specs.Changes.{set_at};
+ghost use Rattle.am_index_leaf.specs.Ghosts.{has_ghost};
 ghost use Rattle.am_index_leaf.specs.LeafCode.{SameRoom, Widened, Fits, KeysFit, ValuesFit, ValuesHaveRoom};
 ghost use Rattle.am_record.specs.OrderedKey.{bytes_of};
 
@@ -144,6 +145,13 @@ impl RawLeaf {
     {
         let place = self.places.get(at);
         (place.1, self.values.get(at))
+    }
+
+    /// Whether one of its entries is a ghost.
+    pub fn has_ghost(&self) -> bool
+        ensures { result ≡ has_ghost self.now.entries }
+    {
+        self.ghosts != 0
     }
 
     /// The first ghost from the index on. The word of bits says where it is, so that no other entry is looked at.
