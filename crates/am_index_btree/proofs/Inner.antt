@@ -45,8 +45,8 @@ over_children {separators} {ks} {rk} inner = record {
   falls = λ i k within here. omega (arith, one_below separators ks rk inner i k within here);
 }
 
-pub over : {n : Node} {s : Shape} {separators : List Separator} {ks : Vec Shape Global} → n ≡ Inner separators ks →
-    IsTree n → shape_of n ≡ s → IsOver s separators ks.items (vec_capacity ks)
+pub over : {n : Node} {s : Shape} {separators : List Separator} {ks : Vec Shape Global} {marks : ℕ} →
+    n ≡ Inner separators ks marks → IsTree n → shape_of n ≡ s → IsOver s separators ks.items (vec_capacity ks)
 over {n} {s} {separators} {ks} is tree view =
     subst (λ (t : Shape). IsOver t separators ks.items (vec_capacity ks)) (sym (ap shape_of is) ∙ view)
-    (over_children (subst IsTree is tree))
+    (over_children (subst IsTree is tree).0)

@@ -12,9 +12,11 @@ pub mod NewRoots
 pub mod OneChild
 pub mod ChildEdits
 pub mod LastChild
+pub mod Marks
 pub mod LeafFills
 pub mod Leaves
 pub mod Fronts
+pub mod GhostWalks
 pub mod GroupedFronts
 mod EndPlaces
 pub mod Seeks

@@ -20,7 +20,7 @@ use Rattle.am_index_btree.specs.InsertResults.{HasSplit}
 
 pub tree_rises : (n : Node) → IsTree n → IsRising (shape_of n).entries
 tree_rises (Leaf l) t = t.1.0
-tree_rises (Inner separators children) t = t.children.rising
+tree_rises (Inner separators children marks) t = t.0.children.rising
 
 -- no place is below the least key of partition 0
 none_under : (k : OrderedKey) → IsLeast k → (a : Place) → place_cmp a (0, k) ≢ Less

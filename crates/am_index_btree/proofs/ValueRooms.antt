@@ -395,7 +395,8 @@ fits_leaf l part key bytes has stands fits = by has.kind
 
 pub tree_roomed : (n : Node) → IsTree n → (s : Shape) → shape_of n ≡ s → IsRoomed s
 tree_roomed (Leaf l) t s seen = subst IsRoomed seen (leaf_roomed l t.1.1)
-tree_roomed (Inner separators children) t s seen = subst IsRoomed seen (all_have children.items t.children.roomed)
+tree_roomed (Inner separators children marks) t s seen =
+    subst IsRoomed seen (all_have children.items t.0.children.roomed)
 
 pub same_children : (ks ls : List Shape) → ls ≡ ks → AllByRecursion (λ (j : Shape). IsRoomed j) ks →
     KeepsRoom (inner_shape ks) (inner_shape ls)

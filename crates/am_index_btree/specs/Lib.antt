@@ -1,5 +1,6 @@
 pub mod Fronts
 pub mod EntriesBetween
+pub mod Ghosts
 pub mod InsertResults
 pub mod Splits
 pub mod Nodes

@@ -10,6 +10,7 @@ use Rattle.am_index.specs.Entries.{IsRising}
 use Rattle.am_index.specs.Places.{AllBelow, NoneBelow}
 use Rattle.am_index_leaf.specs.LeafCode.{Seen, ValuesHaveRoom}
 use Rattle.am_index_btree.specs.Shape.{Shape}
+use Rattle.am_index_btree.specs.Ghosts.{marks_of}
 use Rattle.am_index_btree.specs.Rooms.{IsRoomed}
 use Rattle.am_index_btree.specs.Separators.{separator_place}
 use Rattle.am_index_btree.specs.declared.separator.Separator.{Separator}
@@ -41,7 +42,7 @@ inner_shape ks = record { depth = depth_of ks; entries = all_entries ks; roomy =
 
 abbrev pub shape_of : Node → Shape
 shape_of (Leaf l) = leaf_shape l
-shape_of (Inner separators children) = inner_shape children.items
+shape_of (Inner separators children marks) = inner_shape children.items
 
 -- no entry of a child is below its separator, and all are below the separators of later children
 abbrev pub AreParted : List Separator → List Shape → Type 0
@@ -76,4 +77,5 @@ pub record IsInner (separators : List Separator) (kids : List Shape) (room_kids 
 
 abbrev pub IsTree : Node → Type 0
 IsTree (Leaf l) = (length l.entries ≤ 32) × (IsRising l.entries × ValuesHaveRoom l)
-IsTree (Inner separators children) = IsInner separators children.items (vec_capacity children)
+IsTree (Inner separators children marks) = IsInner separators children.items (vec_capacity children) ×
+    (marks ≡ marks_of children.items)

@@ -8,4 +8,4 @@ use Rattle.am_index_btree.specs.declared.node.Subtree.TheDeep.{deep-Node}
 
 pub deep_le-depth : (n : Node) → max (deep-Node n) 0 ≤ (shape_of n).depth
 deep_le-depth (Leaf l) = omega arith
-deep_le-depth (Inner separators children) = omega arith
+deep_le-depth (Inner separators children marks) = omega arith

@@ -4,7 +4,7 @@ ghost use Rattle.std.specs.Prelude.{◌≡◌, ◌<◌, ◌^◌, [], IfOk};
 ghost use Rattle.am_index.specs.Places.{only_of};
 
 use crate::node::Subtree;
-use crate::read::{Start, Wanted};
+use crate::read::Start;
 use am_index::{Batch, Hint, PLACES_AT_ONCE, PartIndex};
 use am_record::{Entry, Key, NoMemory, Range, Value};
 use std::alloc::Global;
@@ -83,17 +83,11 @@ impl PartIndex for BTree {
     }
 
     fn next_from(&self, part: u32, key: Key) -> Option<Entry> {
-        of_part(
-            self.root.first_from(part, key, Start::At, Wanted::Any),
-            part,
-        )
+        of_part(self.root.first_from(part, key, Start::At), part)
     }
 
     fn after(&self, part: u32, key: Key) -> Option<Entry> {
-        of_part(
-            self.root.first_from(part, key, Start::Above, Wanted::Any),
-            part,
-        )
+        of_part(self.root.first_from(part, key, Start::Above), part)
     }
 
     fn read_from(&self, part: u32, key: Key, batch: &mut Batch) {
@@ -127,11 +121,11 @@ impl PartIndex for BTree {
     }
 
     fn next_any(&self, part: u32, key: Key) -> Option<Entry> {
-        self.root.first_from(part, key, Start::At, Wanted::Any)
+        self.root.first_from(part, key, Start::At)
     }
 
     fn next_ghost(&self, part: u32, key: Key) -> Option<Entry> {
-        self.root.first_from(part, key, Start::At, Wanted::Ghost)
+        self.root.next_ghost(part, key)
     }
 
     fn insert(&mut self, entry: Entry, hint: Hint) -> Result<(), NoMemory> {

@@ -25,7 +25,7 @@ impl Subtree {
     {
         match &mut self.node {
             Node::Leaf(leaf) => fill_leaf(alloc, leaf, part, pairs),
-            Node::Inner(_, children) => {
+            Node::Inner(_, children, _) => {
                 let last = children.len() - 1;
                 children[last].fill_last(alloc, part, pairs)
             }

@@ -18,7 +18,7 @@ impl Subtree {
     {
         match &self.node {
             Node::Leaf(_) => 0,
-            Node::Inner(separators, children) => {
+            Node::Inner(separators, children, _) => {
                 let at = separators.child_for(part, key);
                 children[at].depth_at(part, key).saturating_add(1)
             }
@@ -42,7 +42,7 @@ impl Subtree {
                     hint: Hint::step_then(index_of(at), Hint::none()),
                 }
             }
-            Node::Inner(separators, children) => {
+            Node::Inner(separators, children, _) => {
                 let at = separators.child_near(hint.first(), part, key);
                 let spot = children[at].spot(part, key, hint.rest());
                 Spot {
@@ -73,7 +73,7 @@ impl Subtree {
     fn pass_groups(&self, sought: Sought) -> usize {
         match &self.node {
             Node::Leaf(leaf) => leaf.pass_groups(sought.part, sought.key_front),
-            Node::Inner(separators, _) => separators.pass_groups(sought.front),
+            Node::Inner(separators, _, _) => separators.pass_groups(sought.front),
         }
     }
 
@@ -82,7 +82,7 @@ impl Subtree {
     fn step(&self, passed: usize, sought: Sought) -> (usize, Option<&Subtree>) {
         match &self.node {
             Node::Leaf(leaf) => (leaf.guess(passed, sought.part, sought.key_front), None),
-            Node::Inner(separators, children) => {
+            Node::Inner(separators, children, _) => {
                 let at = separators.guess(passed, sought.front);
                 (at, Some(&children[at]))
             }

@@ -11,15 +11,17 @@ ghost use Rattle.am_index_btree.specs.InsertResults.{Grows, NowHolds, NowRoomed}
 ghost use Rattle.am_index_btree.specs.Rooms.{KeepsRoom, IsWidened};
 ghost use Rattle.am_index_btree.specs.Nodes.{all_entries, depth_of, leaf_shape, inner_shape, AreFilledChildren};
 ghost use Rattle.am_index_btree.specs.Nodes.{IsInner};
+ghost use Rattle.am_index_btree.specs.Ghosts.{marks_of};
 ghost use Rattle.am_index_btree.specs.Splits.{lower_size};
 
+use crate::ghosts::{mark, marks_of};
 use crate::node::{Node, Subtree};
 use crate::room::{ROOM, keep_of, put, split_put};
 use crate::separator::Separator;
 use crate::separators::Separators;
 use crate::spare::{Spare, spares};
 use am_index::Hint;
-use am_index_leaf::RawLeaf;
+use am_index_leaf::{RawLeaf, insert_bit};
 use am_record::{Entry, Key, NoMemory};
 use std::alloc::Global;
 use std::mem;
@@ -62,20 +64,21 @@ impl Subtree {
         };
         let node = mem::replace(
             &mut self.node,
-            Node::Inner(spare.separators, spare.children),
+            Node::Inner(spare.separators, spare.children, 0),
         );
         let left = Subtree { node };
         let least = Separator {
             part: 0,
             key: Key::least(),
         };
-        let Node::Inner(separators, children) = &mut self.node else {
+        let Node::Inner(separators, children, marks) = &mut self.node else {
             unreachable!()
         };
         separators.put(0, least);
         separators.put(1, separator);
         put(children, 0, left);
         put(children, 1, right);
+        *marks = marks_of(children);
         Ok(())
     }
 
@@ -95,17 +98,18 @@ impl Subtree {
     {
         match &mut self.node {
             Node::Leaf(leaf) => insert_in_leaf(alloc, leaf, entry, wanted, hint),
-            Node::Inner(separators, children) => {
+            Node::Inner(separators, children, marks) => {
                 let more = wanted_below(children.len(), wanted)?;
                 let reach = separators.reached_near(hint.first(), entry.part, entry.key);
                 let at = reach.saturating_sub(1);
                 let child = &mut children[at];
                 let grown = child.insert_below(alloc, entry, more, hint.rest())?;
+                mark(marks, at, child);
                 separators.lower(reach, entry);
                 let Some(split) = grown else {
                     return Ok(None);
                 };
-                Ok(add_child(separators, children, at + 1, split))
+                Ok(add_child(separators, children, marks, at + 1, split))
             }
         }
     }
@@ -251,6 +255,7 @@ fn split_insert(
 fn add_child(
     separators: &mut Separators,
     children: &mut Vec<Subtree>,
+    marks: &mut u32,
     at: usize,
     split: Split,
 ) -> Option<Split>
@@ -260,8 +265,10 @@ fn add_child(
     requires in_range { at ≤ vec_len children.old }
     requires most { vec_len children.old ≤ 32 }
     requires room { 32 ≤ vec_capacity children.old }
+    requires marked { marks.old ≡ marks_of children.old.items }
     requires spares { vec_len children.old ≡ 32 → 0 < vec_len split.spares }
     ensures inner { IsInner separators.new children.new.items (vec_capacity children.new) }
+    ensures marked { marks.new ≡ marks_of children.new.items }
     ensures holds { NowHolds (depth_of children.old.items) (all_entries (insert children.old.items at split.right))
         (inner_shape children.new.items) result }
     ensures rooms { NowRoomed (inner_shape (insert children.old.items at split.right))
@@ -274,6 +281,7 @@ fn add_child(
         mut spares,
     } = split;
     if children.len() < ROOM {
+        *marks = insert_bit(*marks, at, right.has_ghost());
         separators.put(at, separator);
         put(children, at, right);
         return None;
@@ -286,11 +294,13 @@ fn add_child(
     let keep = keep_of(at);
     separators.split_put(keep, at, separator, &mut upper_separators);
     split_put(children, keep, at, right, &mut upper_children);
+    *marks = marks_of(children);
+    let upper_marks = marks_of(&upper_children);
     let first = upper_separators.get(0);
     Some(Split {
         separator: first,
         right: Subtree {
-            node: Node::Inner(upper_separators, upper_children),
+            node: Node::Inner(upper_separators, upper_children, upper_marks),
         },
         spares,
     })

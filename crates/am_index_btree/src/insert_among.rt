@@ -7,6 +7,7 @@ ghost use Rattle.am_index_leaf.specs.LeafCode.{ValuesHaveRoom};
 ghost use Rattle.am_index_btree.specs.EntriesBetween.{is_below, GoesAmong, HasPut};
 ghost use Rattle.am_index_btree.specs.Rooms.{KeepsRoom};
 
+use crate::ghosts::mark;
 use crate::node::{Node, Subtree};
 use crate::room::ROOM;
 use crate::separator::Separator;
@@ -28,13 +29,15 @@ impl Subtree {
     {
         match &mut self.node {
             Node::Leaf(leaf) => put_all_among(leaf, bound, more),
-            Node::Inner(separators, children) => {
+            Node::Inner(separators, children, marks) => {
                 let mut added = 0;
                 let mut goes_on = true;
                 'stretch: while goes_on && added < more.len() && is_below(bound, &more[added]) {
                     let at = separators.child_for(more[added].part, more[added].key);
                     let end = separators.behind(at).or(bound);
-                    let count = children[at].insert_among(end, &more[added..]);
+                    let child = &mut children[at];
+                    let count = child.insert_among(end, &more[added..]);
+                    mark(marks, at, child);
                     added += count;
                     goes_on = count > 0;
                 }

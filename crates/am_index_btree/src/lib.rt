@@ -7,6 +7,10 @@
 //! in order. A node that became empty is freed, and so is a topmost node with one child; nodes that
 //! are only sparse are not merged. An insert gets all new nodes before it changes an entry.
 //!
+//! An inner node has a bit for each child, which says whether an entry below that is a ghost. So the
+//! next ghost is found by one way down, and where there is none the root says so. An edit looks at
+//! these bits on its way back, and writes those that change.
+//!
 //! A leaf has room for values of 16 bytes until a longer one comes, and for any from then on, and so
 //! it is with keys. So leaves of short records take less memory, and what an undo sets again has the
 //! room that it had. Besides inserts, those of a run among them, only `make_room` takes memory, and
@@ -17,6 +21,7 @@ mod append;
 mod btree;
 mod fill;
 mod find;
+mod ghosts;
 mod insert;
 mod insert_among;
 mod make_room;

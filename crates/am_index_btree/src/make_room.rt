@@ -59,7 +59,7 @@ impl Subtree {
     {
         match &mut self.node {
             Node::Leaf(leaf) => widen_leaf(alloc, leaf, part, key, bytes),
-            Node::Inner(separators, children) => {
+            Node::Inner(separators, children, _) => {
                 let at = separators.child_near(hint.first(), part, key);
                 children[at].widen_below(alloc, part, key, bytes, hint.rest())
             }

@@ -21,8 +21,9 @@ pub(crate) struct Subtree {
 #[derive(Drop)]
 pub(crate) enum Node {
     Leaf(RawLeaf),
-    /// The children, and for each the place at which it begins.
-    Inner(Separators, Vec<Subtree>),
+    /// The children, with the place at which each begins, and a word with a bit for each, which says whether an entry
+    /// below it is a ghost.
+    Inner(Separators, Vec<Subtree>, u32),
 }
 
 impl Model for Subtree {

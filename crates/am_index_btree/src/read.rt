@@ -8,6 +8,7 @@ ghost use Rattle.am_index.specs.Places.{IsLowerBound, IsUpperBound};
 ghost use Rattle.am_index_btree.specs.Rooms.{IsRoomed};
 ghost use Rattle.am_index_btree.specs.Seek.{first_from, first_wanted, all_such, IsStart, IsIndexFrom, IsChildFrom};
 ghost use Rattle.am_index_btree.specs.Separators.{SeparatorsRise};
+ghost use Rattle.am_index_btree.specs.declared.read.Wanted.TheVariants.{Any};
 
 use crate::node::{Node, Subtree};
 use crate::separators::Separators;
@@ -34,44 +35,37 @@ pub(crate) enum Wanted {
     Ghost,
 }
 
-// The place with which a walk over all partitions begins.
+/// The place with which a walk over all partitions begins.
 #[derive(Clone, Copy)]
-struct Beginning {
-    part: u32,
-    key: Key,
-    start: Start,
+pub(crate) struct Beginning {
+    pub(crate) part: u32,
+    pub(crate) key: Key,
+    pub(crate) start: Start,
 }
 
 impl Subtree {
-    /// The first entry from the place on that is wanted, of any partition.
-    pub(crate) fn first_from(
-        &self,
-        part: u32,
-        key: Key,
-        start: Start,
-        wanted: Wanted,
-    ) -> Option<Entry>
-        ensures found { result ≡ first_from start wanted self.now.entries part key }
+    /// The first entry from the place on, of any partition.
+    pub(crate) fn first_from(&self, part: u32, key: Key, start: Start) -> Option<Entry>
+        ensures found { result ≡ first_from start Any self.now.entries part key }
         ensures rising { IsRising self.now.entries }
         ensures roomed { IsRoomed self.now }
     {
         // Read here, the node's invariant is known.
         let _ = &self.node;
-        self.seek(Some(&Beginning { part, key, start }), wanted)
+        self.seek(Some(&Beginning { part, key, start }))
     }
 
-    // The first entry that is wanted, from there on or of all. It goes down to the place once, and then from leaf to
-    // leaf.
-    fn seek(&self, from: Option<&Beginning>, wanted: Wanted) -> Option<Entry>
-        ensures found { result ≡ first_wanted wanted (option_copied from.entry) self.now.entries }
+    // The first entry from there on or of all. It goes down to the place once, and then from leaf to leaf.
+    fn seek(&self, from: Option<&Beginning>) -> Option<Entry>
+        ensures found { result ≡ first_wanted Any (option_copied from.entry) self.now.entries }
         ensures rising { IsRising self.now.entries }
     {
         match &self.node {
-            Node::Leaf(leaf) => seek_in_leaf(leaf, from, wanted),
-            Node::Inner(separators, children) => {
+            Node::Leaf(leaf) => seek_in_leaf(leaf, from, Wanted::Any),
+            Node::Inner(separators, children, _) => {
                 let mut from = from;
                 for child in &children[child_from(separators, from)..] {
-                    if let Some(entry) = child.seek(from, wanted) {
+                    if let Some(entry) = child.seek(from) {
                         return Some(entry);
                     }
                     // The later children stand behind the place.
@@ -89,7 +83,7 @@ impl Subtree {
     {
         match &self.node {
             Node::Leaf(leaf) => read_on_in_leaf(leaf, part, key, start, batch),
-            Node::Inner(separators, children) => {
+            Node::Inner(separators, children, _) => {
                 prove!(batch.entries().len() <= 16);
                 for at in separators.child_for(part, key)..children.len() {
                     if batch.is_full() || separators.get(at).part > part {
@@ -123,7 +117,7 @@ impl Subtree {
     {
         match &self.node {
             Node::Leaf(leaf) => copy_rows_in_leaf(leaf, part, range, max, rows, hint),
-            Node::Inner(separators, children) => {
+            Node::Inner(separators, children, _) => {
                 for at in separators.child_near(hint.first(), part, range.lo())..children.len() {
                     if rows.len() as u64 >= max
                         || !separators.get(at).is_reached(part, range.hi())
@@ -159,7 +153,7 @@ impl Subtree {
     {
         match &self.node {
             Node::Leaf(leaf) => copy_rows_back_in_leaf(leaf, part, range, max, rows, hint),
-            Node::Inner(separators, children) => {
+            Node::Inner(separators, children, _) => {
                 let end = separators.child_near(hint.first(), part, range.hi()) + 1;
                 for at in (0..end).rev() {
                     children[at].copy_rows_back(part, range, max, rows, hint.rest())?;
@@ -225,8 +219,8 @@ fn end_back_in_leaf(leaf: &RawLeaf, part: u32, key: Key) -> usize
     start_in_leaf(leaf, part, key, Start::At, Hint::none())
 }
 
-// The child with which a walk begins.
-fn child_from(separators: &Separators, from: Option<&Beginning>) -> usize
+/// The child with which a walk begins.
+pub(crate) fn child_from(separators: &Separators, from: Option<&Beginning>) -> usize
     requires rising { SeparatorsRise separators.now }
     requires some { 0 < length separators.now }
     ensures { IsChildFrom (option_copied from.entry) separators.now result }
@@ -250,8 +244,12 @@ fn index_from(leaf: &RawLeaf, from: Option<&Beginning>) -> usize
     }
 }
 
-// The first entry of the leaf that is wanted, from there on or of all.
-fn seek_in_leaf(leaf: &RawLeaf, from: Option<&Beginning>, wanted: Wanted) -> Option<Entry>
+/// The first entry of the leaf that is wanted, from there on or of all.
+pub(crate) fn seek_in_leaf(
+    leaf: &RawLeaf,
+    from: Option<&Beginning>,
+    wanted: Wanted,
+) -> Option<Entry>
     ensures found { result ≡ first_wanted wanted (option_copied from.entry) leaf.now.entries }
     ensures rising { IsRising leaf.now.entries }
 {

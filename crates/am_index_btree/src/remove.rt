@@ -5,9 +5,10 @@ ghost use Rattle.am_index.specs.Entries.{find, entry_at, remove_from, IsRising};
 ghost use Rattle.am_index_leaf.specs.LeafCode.{ValuesHaveRoom};
 ghost use Rattle.am_index_btree.specs.Rooms.{KeepsRoom};
 
+use crate::ghosts::mark;
 use crate::node::{Node, Subtree};
 use crate::room::take_out;
-use am_index_leaf::RawLeaf;
+use am_index_leaf::{RawLeaf, remove_bit};
 use am_record::{Entry, Key};
 
 /// The first entry that was taken out, how many were, and whether none is left below the node.
@@ -35,14 +36,17 @@ impl Subtree {
     {
         match &mut self.node {
             Node::Leaf(leaf) => remove_from_leaf(leaf, part, key, most),
-            Node::Inner(separators, children) => {
+            Node::Inner(separators, children, marks) => {
                 let at = separators.child_for(part, key);
-                let removed = children[at].remove(part, key, most);
+                let child = &mut children[at];
+                let removed = child.remove(part, key, most);
+                mark(marks, at, child);
                 if !removed.is_empty || children.len() == 1 {
                     return removed;
                 }
                 separators.take_out(at);
                 take_out(children, at);
+                *marks = remove_bit(*marks, at);
                 Removed {
                     entry: removed.entry,
                     count: removed.count,
@@ -58,7 +62,7 @@ impl Subtree {
         ensures roomy { self.new.roomy ≡ self.old.roomy }
         ensures depth { self.new.depth ≤ self.old.depth }
     {
-        let Node::Inner(_, children) = &mut self.node else {
+        let Node::Inner(_, children, _) = &mut self.node else {
             return;
         };
         if children.len() > 1 {

@@ -7,6 +7,7 @@ ghost use Rattle.am_index.specs.Rooms.{HasRoom};
 ghost use Rattle.am_index_leaf.specs.LeafCode.{ValuesHaveRoom};
 ghost use Rattle.am_index_btree.specs.Rooms.{KeepsRoom};
 
+use crate::ghosts::mark;
 use crate::node::{Node, Subtree};
 use am_index::Hint;
 use am_index_leaf::RawLeaf;
@@ -33,9 +34,12 @@ impl Subtree {
         prove!(value.len() <= 64);
         match &mut self.node {
             Node::Leaf(leaf) => set_in_leaf(leaf, part, key, value, is_ghost, hint),
-            Node::Inner(separators, children) => {
+            Node::Inner(separators, children, marks) => {
                 let at = separators.child_near(hint.first(), part, key);
-                children[at].set(part, key, value, is_ghost, hint.rest())
+                let child = &mut children[at];
+                let was_live = child.set(part, key, value, is_ghost, hint.rest());
+                mark(marks, at, child);
+                was_live
             }
         }
     }

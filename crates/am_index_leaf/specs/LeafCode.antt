@@ -35,6 +35,16 @@ pub record Fits (s : Seen) (key value : ℕ) : Type 0 where
   pub key_fits : key ≤ s.key_room
   pub value_fits : value ≤ s.value_room
 
+-- a leaf is wide only where a key or a value of so many bytes is longer than 16
+pub record IsNarrow (s : Seen) (key value : ℕ) : Type 0 where
+  pub keys : key ≤ 16 → s.key_room ≡ 16
+  pub values : value ≤ 16 → s.value_room ≡ 16
+
+-- one leaf has more room than the other only where that had none for a key or a value of so many bytes
+pub record WidensFor (a b : Seen) (key value : ℕ) : Type 0 where
+  pub keys : key ≤ b.key_room → a.key_room ≡ b.key_room
+  pub values : value ≤ b.value_room → a.value_room ≡ b.value_room
+
 -- each record of a run has keys and values of no more bytes
 abbrev pub KeysFit : Records → ℕ → Type 0
 KeysFit rs n = AllByRecursion (λ (r : OrderedKey × List ℕ). length (bytes_of r.0) ≤ n) rs

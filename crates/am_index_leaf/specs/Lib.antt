@@ -2,6 +2,7 @@ pub mod Blocks
 pub mod Changes
 pub mod Columns
 pub mod Fronts
+pub mod Ghosts
 pub mod Stretch
 pub mod LeafCode
 pub mod Kinds

@@ -1,9 +1,11 @@
-//! The bits of a word: a leaf has one for each entry, which says whether that is a ghost.
+//! The bits of a word: a leaf has one for each entry, which says whether that is a ghost. A node above may have one for
+//! each child.
 
 ghost use Rattle.std.specs.Prelude.{◌≡◌, ℕ, ◌/◌, ◌%◌, ◌^◌, ◌<◌, ◌≤◌, false, IfSome, IfNone};
 ghost use Rattle.am_index_leaf.specs.Bits.{has_bit, IsNextBit, inserted_bit, removed_bit, changed_bit};
 
-pub(crate) fn has_bit(word: u32, at: usize) -> bool
+/// The bit at the index.
+pub fn has_bit(word: u32, at: usize) -> bool
     requires { at < 32 }
     ensures { result ≡ has_bit word at }
 {
@@ -11,7 +13,7 @@ pub(crate) fn has_bit(word: u32, at: usize) -> bool
 }
 
 /// The index of the first set bit from the one that is given on.
-pub(crate) fn next_bit(word: u32, from: usize) -> Option<usize>
+pub fn next_bit(word: u32, from: usize) -> Option<usize>
     requires { from ≤ 32 }
     ensures first { IfSome result (λ at. IsNextBit word from at) }
     ensures none { IfNone result ((k : ℕ) → from ≤ k → has_bit word k ≡ false) }
@@ -24,7 +26,7 @@ pub(crate) fn next_bit(word: u32, from: usize) -> Option<usize>
 }
 
 /// One more bit at the index; those from there on move up.
-pub(crate) fn insert_bit(word: u32, at: usize, is_set: bool) -> u32
+pub fn insert_bit(word: u32, at: usize, is_set: bool) -> u32
     requires in_range { at < 32 }
     requires room { word < 2 ^ 31 }
     ensures { result ≡ inserted_bit word at is_set }
@@ -36,7 +38,7 @@ pub(crate) fn insert_bit(word: u32, at: usize, is_set: bool) -> u32
 }
 
 /// Takes the bit at the index out; those above it move down.
-pub(crate) fn remove_bit(word: u32, at: usize) -> u32
+pub fn remove_bit(word: u32, at: usize) -> u32
     requires { at < 32 }
     ensures { result ≡ removed_bit word at }
 {
@@ -46,7 +48,7 @@ pub(crate) fn remove_bit(word: u32, at: usize) -> u32
 }
 
 /// Writes over the bit at the index.
-pub(crate) fn change_bit(word: u32, at: usize, is_set: bool) -> u32
+pub fn change_bit(word: u32, at: usize, is_set: bool) -> u32
     requires { at < 32 }
     ensures { result ≡ changed_bit word at is_set }
 {

@@ -88,6 +88,7 @@ impl<E: Shortens> Column<E> {
         requires { most ≤ E.MOST }
         ensures empty { IfOk result (λ c. c.items ≡ []) }
         ensures room { IfOk result (λ c. most ≤ c.room) }
+        ensures narrow { IfOk result (λ c. most ≤ 16 → c.room ≡ 16) }
     {
         let kind = if most <= SHORT_LEN {
             Kind::Short(Block::new(alloc)?)

@@ -10,7 +10,9 @@ ghost use Rattle.am_index.specs.Entries.{first_such, IsRising};
 ghost use Rattle.am_index.specs.Places.{IsPlaceOf, IsGapFor};
 ghost use Rattle.am_index.specs.Runs.{run_entries};
 ghost use Rattle.am_index_leaf.specs.Changes.{set_at};
-ghost use Rattle.am_index_leaf.specs.LeafCode.{SameRoom, Widened, Fits, KeysFit, ValuesFit, ValuesHaveRoom};
+ghost use Rattle.am_index_leaf.specs.Ghosts.{has_ghost};
+ghost use Rattle.am_index_leaf.specs.LeafCode.{SameRoom, Widened, WidensFor, Fits, IsNarrow, KeysFit, ValuesFit};
+ghost use Rattle.am_index_leaf.specs.LeafCode.{ValuesHaveRoom};
 ghost use Rattle.am_record.specs.OrderedKey.{bytes_of};
 
 use crate::bits::{change_bit, has_bit, insert_bit, next_bit, remove_bit, split_bits};
@@ -58,6 +60,7 @@ impl RawLeaf {
         requires value { value_len ≤ max_value_bytes }
         ensures empty { IfOk result (λ leaf. leaf.entries ≡ []) }
         ensures room { IfOk result (λ leaf. Fits leaf key_len value_len) }
+        ensures narrow { IfOk result (λ leaf. IsNarrow leaf key_len value_len) }
     {
         Ok(RawLeaf {
             places: Places::new(alloc, key_len)?,
@@ -88,6 +91,7 @@ impl RawLeaf {
         requires key { key_len ≤ max_key_bytes }
         requires value { value_len ≤ max_value_bytes }
         ensures widened { Widened self.new self.old }
+        ensures needed { WidensFor self.new self.old key_len value_len }
         ensures ok { OnOk result (Fits self.new key_len value_len) }
         ensures full { OnErr result (¬ Fits self.old key_len value_len) }
     {
@@ -144,6 +148,13 @@ impl RawLeaf {
     {
         let place = self.places.get(at);
         (place.1, self.values.get(at))
+    }
+
+    /// Whether one of its entries is a ghost.
+    pub fn has_ghost(&self) -> bool
+        ensures { result ≡ has_ghost self.now.entries }
+    {
+        self.ghosts != 0
     }
 
     /// The first ghost from the index on. The word of bits says where it is, so that no other entry is looked at.
@@ -274,6 +285,8 @@ impl RawLeaf {
         ensures ok { OnOk result (self.new.entries ≡ self.old.entries ++ run_entries part pairs.now) }
         ensures key_room { self.old.key_room ≤ self.new.key_room }
         ensures value_room { self.old.value_room ≤ self.new.value_room }
+        ensures key_needed { KeysFit pairs.now self.old.key_room → self.new.key_room ≡ self.old.key_room }
+        ensures value_needed { ValuesFit pairs.now self.old.value_room → self.new.value_room ≡ self.old.value_room }
         ensures err { OnErr result (self.new.entries ≡ self.old.entries) }
     {
         let (key_len, value_len) = longest(pairs);

@@ -1,7 +1,7 @@
 //! The longest keys and values of a run.
 
 ghost use Rattle.am_record.specs.Limits.{max_value_bytes, max_key_bytes};
-ghost use Rattle.std.specs.Prelude.{◌≤◌};
+ghost use Rattle.std.specs.Prelude.{◌≤◌, ℕ};
 ghost use Rattle.am_index_leaf.specs.LeafCode.{KeysFit, ValuesFit};
 
 use am_record::{Key, Value};
@@ -10,6 +10,8 @@ use am_record::{Key, Value};
 pub(crate) fn longest(pairs: &[(Key, Value)]) -> (usize, usize)
     ensures keys { KeysFit pairs.now result.0 }
     ensures values { ValuesFit pairs.now result.1 }
+    ensures least_key { (n : ℕ) → KeysFit pairs.now n → result.0 ≤ n }
+    ensures least_value { (n : ℕ) → ValuesFit pairs.now n → result.1 ≤ n }
     ensures key { result.0 ≤ max_key_bytes }
     ensures value { result.1 ≤ max_value_bytes }
 {

@@ -17,7 +17,7 @@ use Rattle.am_index.specs.Entries.{Slot, find, insert_entry, set_entry, remove_e
 use Rattle.am_index.specs.Runs.{run_entries}
 use Rattle.am_index.proofs.Content.{slot_live}
 use Rattle.am_index.proofs.Edits.{find-hit, find-miss, set-hit, set-miss, one_place}
-use Rattle.am_index_filter.specs.Covers.{covers}
+use Rattle.am_index_filter.specs.Covers.{is_covered}
 use Rattle.am_index_parts.specs.declared.catalog.OpenRun.{OpenRun}
 use Rattle.am_index_parts.specs.declared.run_filters.Generation.{Generation}
 use Rattle.am_index_parts.specs.declared.run_filters.RunFilter.{RunFilter}
@@ -31,7 +31,7 @@ use Rattle.am_index_parts.proofs.Counts.{all_inserted, all_removed, all_set}
 -- ---- the runs of a generation
 
 module _ (live : Bool) (run n : ℕ) where
-  pub named_last : (fs : List RunFilter) (f : RunFilter) → f.part ≡ run → covers f.filter n ≡ true →
+  pub named_last : (fs : List RunFilter) (f : RunFilter) → f.part ≡ run → is_covered f.filter n ≡ true →
       f.is_awake ≡ true → IsNamed live (fs ++ f ∷ []) run n
   named_last [] f is has awake = inl (is, has, λ _. awake)
   named_last (g ∷ fs) f is has awake = inr (named_last fs f is has awake)
@@ -43,7 +43,7 @@ module _ (live : Bool) (run n : ℕ) where
 
   -- what the filter says
   abbrev pub Is : RunFilter → Type 0
-  Is f = (f.part ≡ run) × (covers f.filter n ≡ true) × (live ≡ true → f.is_awake ≡ true)
+  Is f = (f.part ≡ run) × (is_covered f.filter n ≡ true) × (live ≡ true → f.is_awake ≡ true)
 
   named_up_to : (fs : List RunFilter) (i : ℕ) (x : RunFilter) → i < length fs → x ≡ get_or fs i x →
       IsNamed live (take (suc i) fs) run n → Is x ⊎ IsNamed live (take i fs) run n
@@ -190,20 +190,20 @@ none_first : (gs : List Generation) (n : ℕ) (ns : List ℕ) (run : ℕ) → ma
     MayBeIn true gs run n → ⊥
 none_first [] n ns run none it = it
 none_first (g ∷ gs) n ns run none (inl here) =
-    let parts = or_none (g.is_awake && list_any (λ m. covers g.all m) (n ∷ ns)) (may_have_any gs (n ∷ ns)) none in
-    both_ways (covers g.all n) (or_none (covers g.all n) (list_any (λ m. covers g.all m) ns)
-    (asleep_or_none g.is_awake (list_any (λ m. covers g.all m) (n ∷ ns)) (here.awake refl) parts.0)).0 here.covered
+    let parts = or_none (g.is_awake && list_any (λ m. is_covered g.all m) (n ∷ ns)) (may_have_any gs (n ∷ ns)) none in
+    both_ways (is_covered g.all n) (or_none (is_covered g.all n) (list_any (λ m. is_covered g.all m) ns)
+    (asleep_or_none g.is_awake (list_any (λ m. is_covered g.all m) (n ∷ ns)) (here.awake refl) parts.0)).0 here.covered
 none_first (g ∷ gs) n ns run none (inr later) =
-    none_first gs n ns run (or_none (g.is_awake && list_any (λ m. covers g.all m) (n ∷ ns)) (may_have_any gs (n ∷ ns))
+    none_first gs n ns run (or_none (g.is_awake && list_any (λ m. is_covered g.all m) (n ∷ ns)) (may_have_any gs (n ∷ ns))
     none).1 later
 
 none_later : (gs : List Generation) (n : ℕ) (ns : List ℕ) → may_have_any gs (n ∷ ns) ≡ false →
     may_have_any gs ns ≡ false
 none_later [] n ns none = refl
 none_later (g ∷ gs) n ns none =
-    let parts = or_none (g.is_awake && list_any (λ m. covers g.all m) (n ∷ ns)) (may_have_any gs (n ∷ ns)) none in
-    both_none (g.is_awake && list_any (λ m. covers g.all m) ns) (may_have_any gs ns)
-    (fewer_none g.is_awake (covers g.all n) (list_any (λ m. covers g.all m) ns) parts.0) (none_later gs n ns parts.1)
+    let parts = or_none (g.is_awake && list_any (λ m. is_covered g.all m) (n ∷ ns)) (may_have_any gs (n ∷ ns)) none in
+    both_none (g.is_awake && list_any (λ m. is_covered g.all m) ns) (may_have_any gs ns)
+    (fewer_none g.is_awake (is_covered g.all n) (list_any (λ m. is_covered g.all m) ns) parts.0) (none_later gs n ns parts.1)
 
 -- ---- entries
 
@@ -437,14 +437,14 @@ may_be_in_others live run n (g ∷ gs) (inr later) =
 -- ---- the newest run
 
 -- what is not said of a place is not found there
-pub not_said : (live : Bool) (run n : ℕ) (f : RunFilter) → live ≡ true → (f.is_awake && covers f.filter n) ≡ false →
-    (f.part ≡ run) × (covers f.filter n ≡ true) × (live ≡ true → f.is_awake ≡ true) → ⊥
-not_said live run n f is none it = both_ways (f.is_awake && covers f.filter n) none
-    (and_from f.is_awake (covers f.filter n) (it.2 is) it.1)
+pub not_said : (live : Bool) (run n : ℕ) (f : RunFilter) → live ≡ true → (f.is_awake && is_covered f.filter n) ≡ false →
+    (f.part ≡ run) × (is_covered f.filter n ≡ true) × (live ≡ true → f.is_awake ≡ true) → ⊥
+not_said live run n f is none it = both_ways (f.is_awake && is_covered f.filter n) none
+    (and_from f.is_awake (is_covered f.filter n) (it.2 is) it.1)
 
-pub not_said_in : (run n : ℕ) (g : Generation) → (g.is_awake && covers g.all n) ≡ false → IsNamedIn true g run n → ⊥
-not_said_in run n g none it = both_ways (g.is_awake && covers g.all n) none
-    (and_from g.is_awake (covers g.all n) (it.awake refl) it.covered)
+pub not_said_in : (run n : ℕ) (g : Generation) → (g.is_awake && is_covered g.all n) ≡ false → IsNamedIn true g run n → ⊥
+not_said_in run n g none it = both_ways (g.is_awake && is_covered g.all n) none
+    (and_from g.is_awake (is_covered g.all n) (it.awake refl) it.covered)
 
 first_of_three : (a b c : Option ℕ) → first_some (first_some a b) c ≡ first_some a (first_some b c)
 first_of_three None b c = refl
@@ -456,7 +456,7 @@ first_alone (Some run) = refl
 
 -- what one filter says
 abbrev pub newest_by : RunFilter → ℕ → Option ℕ
-newest_by f n = cond (f.is_awake && covers f.filter n) (Some f.part) None
+newest_by f n = cond (f.is_awake && is_covered f.filter n) (Some f.part) None
 
 pub newest_up_to : (n : ℕ) (fs : List RunFilter) (i : ℕ) (x : RunFilter) → i < length fs → x ≡ get_or fs i x →
     newest_of (take (suc i) fs) n ≡ first_some (newest_by x n) (newest_of (take i fs) n)
@@ -473,7 +473,7 @@ newest_below n fs at x some le is =
     ap (λ i. newest_of (take i fs) n) last ∙ newest_up_to n fs (at - 1) x (omega (arith, some, le)) is
 
 abbrev pub newest_in : Generation → ℕ → Option ℕ
-newest_in g n = cond (g.is_awake && covers g.all n) (newest_of g.runs.items n) None
+newest_in g n = cond (g.is_awake && is_covered g.all n) (newest_of g.runs.items n) None
 
 newest_run_up_to : (n : ℕ) (gs : List Generation) (i : ℕ) (x : Generation) → i < length gs → x ≡ get_or gs i x →
     newest_run (take (suc i) gs) n ≡ first_some (newest_in x n) (newest_run (take i gs) n)

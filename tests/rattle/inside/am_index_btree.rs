@@ -1,6 +1,6 @@
 use crate::BTree;
 use crate::node::{Node, Subtree};
-use crate::read::{Start, Wanted};
+use crate::read::Start;
 use am_index::{Hint, PartIndex};
 use am_record::{Entry, Key, NoMemory, Value};
 use std::alloc::Global;
@@ -20,7 +20,7 @@ fn numbered(part: u32, number: u64) -> Entry {
 fn leaves(tree: &Subtree) -> usize {
     match &tree.node {
         Node::Leaf(_) => 1,
-        Node::Inner(_, children) => {
+        Node::Inner(_, children, _) => {
             let mut count = 0_usize;
             for child in children {
                 count = count.saturating_add(leaves(child));
@@ -187,7 +187,7 @@ fn append(
     part: u32,
     pairs: &[(Key, Value)],
 ) -> Result<(), NoMemory> {
-    let found = tree.first_from(part, Key::least(), Start::At, Wanted::Any);
+    let found = tree.first_from(part, Key::least(), Start::At);
     if found.is_some() {
         return Ok(());
     }
@@ -198,7 +198,7 @@ fn append(
 fn count(tree: &Subtree) -> usize {
     match &tree.node {
         Node::Leaf(leaf) => leaf.len(),
-        Node::Inner(_, children) => {
+        Node::Inner(_, children, _) => {
             let mut all = 0_usize;
             for child in children {
                 all = all.saturating_add(count(child));

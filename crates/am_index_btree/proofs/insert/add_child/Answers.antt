@@ -5,12 +5,15 @@ use Rattle.std.specs.List.{insert}
 use Rattle.am_index_btree.specs.declared.separator.Separator.{Separator}
 use Rattle.am_index_btree.specs.Separators.{separator_place}
 use Rattle.am_index.specs.Places.{AllBelow, NoneBelow}
+use Rattle.am_index_leaf.specs.Bits.{inserted_bit}
 use Rattle.am_index_btree.specs.Splits.{lower_size}
+use Rattle.am_index_btree.specs.Ghosts.{marks_of}
 use Rattle.am_index_btree.specs.Nodes.{all_entries, depth_of}
 use Rattle.am_index_btree.proofs.Halves.{half_stays, size_range}
 use Rattle.am_index_btree.proofs.ChildHalves.{inner_from, depth_level, all_entries_cut, children_taken}
 use Rattle.am_index_btree.proofs.ChildHalves.{children_dropped}
 use Rattle.am_index_btree.proofs.ChildHalves.{parted_cut, parted_lengths, some_entries, many_entries, get_dropped}
+use Rattle.am_index_btree.proofs.Marks.{marks_fit, marks_insert}
 use Rattle.am_index_btree.proofs.ValueRooms.{same_children, cut_keeps}
 use Rattle.am_index_btree.proofs.insert.add_child.Goals as goal
 
@@ -44,11 +47,13 @@ invariant_of-result c =
     let count = c.args.children.now.ok.0 in let range = size_range c.keep_of-keep.result i c.keep_of-keep.ensures.keeps
     c.keep_of-keep.ensures.room in
     let long = length-insert c.args.children.now.items i s.right (omega (arith, c.requires.in_range)) in
-    let cut = length-drop m ks in
-    inner_from d (drop m ls) (drop m ks) c.split_put.new.upper c.split_put-2.new.upper.items _
-    c.split_put.ensures.back c.split_put-2.ensures.back (children_dropped m d ls ks c.requires.children)
-    (omega (arith, c.if-len-lt-ROOM.false, c.len.ensures)) (omega (arith, c.requires.most))
-    (omega (arith, c.split_put-2.ensures.capacity, c.in-Some.spare.room))
+    let cut = length-drop m ks in (
+      inner_from d (drop m ls) (drop m ks) c.split_put.new.upper c.split_put-2.new.upper.items _
+          c.split_put.ensures.back c.split_put-2.ensures.back (children_dropped m d ls ks c.requires.children)
+          (omega (arith, c.if-len-lt-ROOM.false, c.len.ensures)) (omega (arith, c.requires.most))
+          (omega (arith, c.split_put-2.ensures.capacity, c.in-Some.spare.room)),
+      c.marks_of-upper_marks.ensures ∙ ap marks_of c.deref-2.ensures.value,
+    )
 
 pub returns-clause-inner : goal.returns-clause-inner
 returns-clause-inner c =
@@ -115,3 +120,41 @@ returns-clause-rooms c =
     (insert c.args.children.now.items c.args.at c.args.split.right)
     c.split_put-2.new.v.items c.split_put-2.new.upper.items c.split_put-2.ensures.front c.split_put-2.ensures.back
     c.requires.children.roomed
+
+-- ---- the bits
+
+pub insert_bit-requires-clause-room : goal.insert_bit-requires-clause-room
+insert_bit-requires-clause-room c =
+    let count = c.args.children.now.ok.0 in
+    let h = marks_fit c.args.children.now.items 31 (omega (arith, c.if-len-lt-ROOM.true, c.len.ensures)) in
+    omega (arith, h, c.requires.marked)
+
+pub returns-then-len-lt-ROOM-clause-marked : goal.returns-then-len-lt-ROOM-clause-marked
+returns-then-len-lt-ROOM-clause-marked c =
+    let i = c.args.at in let ks = c.args.children.now.items in let right = c.args.split.right in
+    let count = c.args.children.now.ok.0 in
+    c.insert_bit.ensures ∙
+    (λ j. inserted_bit (c.requires.marked j) i (c.has_ghost.ensures j)) ∙
+    marks_insert ks i right (omega (arith, c.requires.in_range)) ∙
+    sym (ap marks_of c.put-then-len-lt-ROOM.ensures.items)
+
+pub marks_of-upper_marks-requires : goal.marks_of-upper_marks-requires
+marks_of-upper_marks-requires c =
+    let i = c.args.at in let m = lower_size c.keep_of-keep.result i in
+    let ks = insert c.args.children.now.items i c.args.split.right in
+    let count = c.args.children.now.ok.0 in let range = size_range c.keep_of-keep.result i c.keep_of-keep.ensures.keeps
+    c.keep_of-keep.ensures.room in
+    let long = length-insert c.args.children.now.items i c.args.split.right (omega (arith, c.requires.in_range)) in
+    let cut = length-drop m ks in
+    omega (arith, ap length c.deref-2.ensures.value, ap length c.split_put-2.ensures.back, c.requires.most)
+
+pub get-first-requires : goal.get-first-requires
+get-first-requires c =
+    let i = c.args.at in let m = lower_size c.keep_of-keep.result i in
+    let ls = insert c.args.separators.now i c.args.split.separator in
+    let count = c.args.children.now.ok.0 in let range = size_range c.keep_of-keep.result i c.keep_of-keep.ensures.keeps
+    c.keep_of-keep.ensures.room in
+    let long = length-insert c.args.separators.now i c.args.split.separator
+    (omega (arith, c.requires.in_range, c.requires.pairs)) in
+    let cut = length-drop m ls in
+    omega (arith, ap length c.split_put.ensures.back, c.requires.pairs, c.if-len-lt-ROOM.false, c.len.ensures)

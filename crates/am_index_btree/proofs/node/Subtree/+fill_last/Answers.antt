@@ -1,11 +1,13 @@
 use Rattle.std.proofs.Common.{◌≡◌, ◌-◌, ◌++◌, ℕ, suc, length, take, sym, ap, ◌∙◌, subst, rules, arith}
 use Rattle.am_index.specs.Entries.{IsRising}
 use Rattle.am_index.specs.Runs.{run_entries}
+use Rattle.am_index_leaf.specs.Ghosts.{has_ghost}
 use Rattle.am_index_btree.specs.Shape.{Shape}
 use Rattle.am_index_btree.specs.Rooms.{KeepsRoom}
 use Rattle.am_index_btree.specs.Nodes.{shape_of, leaf_shape}
 use Rattle.am_index_btree.proofs.ValueRooms.{leaf_keeps}
 use Rattle.am_index_btree.proofs.Inner.{over}
+use Rattle.am_index_btree.proofs.Marks.{marks_are, marks_same, live_behind}
 use Rattle.am_index_btree.proofs.LeafFills.{front_rises}
 use Rattle.am_index_btree.proofs.LastChild.{last_some, last_rises, last_filled}
 use Rattle.am_index_btree.proofs.node.Subtree.+fill_last.Goals as goal
@@ -46,8 +48,13 @@ invariant_of-self t c = elim c.match-self.branch [
       let rising = front_rises c.args.part c.args.self.now.entries c.args.pairs.now c.requires.rising
       w.fill_last.result in
       let e = w.fill_last.ensures in
-      rw w.self-inside-is (last_filled node i w.index_mut.result.now last w.index_mut.ensures.value _ c.requires.some
-      rising w.fill_last.new.self e.depth e.entries e.rooms).inner
+      let k = w.index_mut.result.now in let here = w.index_mut.ensures.value in
+      rw w.self-inside-is (
+        (last_filled node i k last here _ c.requires.some rising w.fill_last.new.self e.depth e.entries e.rooms).inner,
+        marks_are w.in-Inner.is c.self.invariant ∙ marks_same w.in-Inner.children.items i k w.fill_last.new.self here
+            (ap has_ghost e.entries ∙
+            live_behind k.entries c.args.part (take w.fill_last.result c.args.pairs.now)),
+      )
 ]
 
 pub returns : goal.returns

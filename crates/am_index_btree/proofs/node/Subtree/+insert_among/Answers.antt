@@ -7,12 +7,15 @@ use Rattle.am_index_leaf.proofs.RisingEntries.{rising-drop}
 use Rattle.am_index.proofs.Lists.{rising-take}
 use Rattle.am_index.proofs.Rooms.{keep_all}
 use Rattle.am_index.proofs.Searches.{whole_rest}
+use Rattle.am_index_leaf.specs.Bits.{changed_bit}
+use Rattle.am_index_leaf.specs.Ghosts.{has_ghost}
 use Rattle.am_index_btree.specs.Shape.{Shape}
 use Rattle.am_index_btree.specs.Rooms.{IsRoomed, KeepsRoom}
 use Rattle.am_index_btree.specs.Nodes.{all_entries, all_roomy, shape_of, inner_shape, leaf_shape}
 use Rattle.am_index_btree.proofs.EntriesBetween.{AreAmong, IsEnd, end_of, copied_or}
 use Rattle.am_index_btree.proofs.Stretches.{added_further}
 use Rattle.am_index_btree.proofs.Inner.{over, over_children}
+use Rattle.am_index_btree.proofs.Marks.{marks_are, marks_set}
 use Rattle.am_index_btree.proofs.ValueRooms.{all_have, leaf_keeps, tree_roomed}
 use Rattle.am_index_btree.proofs.node.Subtree.+insert_among.Goals as goal
 use Rattle.am_index_btree.proofs.node.Subtree.+insert_among.Goals.{in-Leaf, in-Inner+else-stretch-test}
@@ -35,13 +38,14 @@ stretch-init t c =
         rooms = subst (λ (s : Shape). KeepsRoom s (inner_shape ks)) (sym node.seen)
             (keep_all (all_roomy ks) (all_entries ks) (all_have ks node.inner.children.roomed));
       };
+      marked = marks_are c.in-Inner.is c.self.invariant;
     }
 
 pub child_for-at-requires-clause-rising : goal.child_for-at-requires-clause-rising
 child_for-at-requires-clause-rising t c = (over_children c.stretch.invariant.so_far.inner).asked.rising
 
-pub index_mut-requires : goal.index_mut-requires
-index_mut-requires t c = omega (
+pub index_mut-child-requires : goal.index_mut-child-requires
+index_mut-child-requires t c = omega (
   arith,
   (over_children c.stretch.invariant.so_far.inner).as_many,
   c.child_for-at.ensures.in_range,
@@ -51,19 +55,24 @@ index_mut-requires t c = omega (
 pub insert_among-count-requires : goal.insert_among-count-requires
 insert_among-count-requires t c =
     let node = over_children c.stretch.invariant.so_far.inner in
-    let deep = node.falls c.child_for-at.result c.index_mut.result.now
-    (omega (arith, c.child_for-at.ensures.in_range, node.as_many)) c.index_mut.ensures.value in
-    let falls : c.index_mut.result.now.depth < c.args.self.now.depth =
+    let deep = node.falls c.child_for-at.result c.index_mut-child.result.now
+    (omega (arith, c.child_for-at.ensures.in_range, node.as_many)) c.index_mut-child.ensures.value in
+    let falls : c.index_mut-child.result.now.depth < c.args.self.now.depth =
     omega (arith, deep, c.stretch.invariant.so_far.depth) in (
       search rules,
       subst IsRising (sym (whole_rest c.stretch.added c.args.more.now))
           (rising-drop c.stretch.added c.args.more.now c.requires.rising),
     )
 
+pub mark-requires : goal.mark-requires
+mark-requires t c =
+    let node = over_children c.stretch.invariant.so_far.inner in
+    omega (arith, node.as_many, node.inner.most, c.child_for-at.ensures.in_range)
+
 pub stretch-preserved : goal.stretch-preserved
 stretch-preserved t c =
     let ls = c.in-Inner.separators in let ks = c.stretch.children.items in let at = c.child_for-at.result in
-    let k = c.index_mut.result.now in let e = c.insert_among-count.ensures in
+    let k = c.index_mut-child.result.now in let e = c.insert_among-count.ensures in
     let n = c.insert_among-count.result in
     let before = c.stretch.invariant.so_far in let more = c.args.more.now in let bound = option_copied c.args.bound in
     let lt : at < length ks =
@@ -76,7 +85,7 @@ stretch-preserved t c =
     let rest = whole_rest c.stretch.added more in
     let so_far = added_further c.args.self.now have bound more ls ks _ c.stretch.added before at k
     c.insert_among-count.new.self lt
-    c.index_mut.ensures.value (option_copied c.or-end.result) is_end n
+    c.index_mut-child.ensures.value (option_copied c.or-end.result) is_end n
     (rising-take n (drop c.stretch.added more) (rising-drop c.stretch.added more c.requires.rising))
     (subst (λ l. AreAmong k.entries (option_copied c.or-end.result) (take n l)) rest e.among)
     (subst (λ l. AllFree k.entries (take n l)) rest e.free)
@@ -90,6 +99,8 @@ stretch-preserved t c =
         length-drop c.stretch.added more,
       );
       so_far = so_far;
+      marked = c.mark.ensures ∙ ap (λ m. changed_bit m at (has_ghost c.insert_among-count.new.self.entries))
+          c.stretch.invariant.marked ∙ marks_set ks at c.insert_among-count.new.self lt;
     }
 
 pub invariant_of-self : goal.invariant_of-self
@@ -99,11 +110,11 @@ invariant_of-self t c = elim c.match-self.branch [
     (w.put_all_among.ensures.rising, w.put_all_among.ensures.room),
   )
   | in-Inner+else-stretch-test w ↦
-      rw w.self-inside-is w.stretch.invariant.so_far.inner
+      rw w.self-inside-is (w.stretch.invariant.so_far.inner, w.stretch.invariant.marked)
   | in-Inner+then-stretch-test+then-added-more+else-is_below w ↦
-      rw w.self-inside-is w.stretch.invariant.so_far.inner
+      rw w.self-inside-is (w.stretch.invariant.so_far.inner, w.stretch.invariant.marked)
   | in-Inner+then-stretch-test+else-added-more w ↦
-      rw w.self-inside-is w.stretch.invariant.so_far.inner
+      rw w.self-inside-is (w.stretch.invariant.so_far.inner, w.stretch.invariant.marked)
 ]
 
 pub returns : goal.returns

@@ -3,11 +3,13 @@ use Rattle.std.proofs.Common.{ℕ, set, rules, arith}
 use Rattle.std.specs.List.{insert}
 use Rattle.am_record.proofs.Outcomes.{OnErr-from}
 use Rattle.am_index.specs.Entries.{find, insert_entry}
+use Rattle.am_index_leaf.specs.Ghosts.{has_ghost}
 use Rattle.am_index_btree.specs.Shape.{Shape}
 use Rattle.am_index_btree.specs.Nodes.{depth_of, leaf_shape, inner_shape, shape_of}
 use Rattle.am_index_btree.specs.InsertResults.{Grows, NowHolds}
 use Rattle.am_index_btree.specs.Rooms.{IsWidened}
 use Rattle.am_index_btree.proofs.Inner.{over}
+use Rattle.am_index_btree.proofs.Marks.{marked, marks_are, marks_same}
 use Rattle.am_index_btree.proofs.ChildEdits.{widened}
 use Rattle.am_index_btree.proofs.ChildInserts.{length_lowered}
 use Rattle.am_index_btree.proofs.ValueRooms.{tree_roomed}
@@ -52,6 +54,13 @@ insert_below-requires t c =
     let falls = f.falls in
     (search rules, f.absent_there)
 
+pub mark-requires : goal.mark-requires
+mark-requires t c =
+    let node = over c.in-Inner.is c.self.invariant c.self.view_is in
+    let f = way_in node c.args.entry.now c.reached_near-reach.ensures c.saturating_sub-at.ensures
+    c.index_mut-child.ensures.value c.requires in
+    omega (arith, f.inside, node.inner.most)
+
 pub invariant_of-self-in_default : goal.invariant_of-self-in_default
 invariant_of-self-in_default t c =
     let x = c.args.entry.now in let k = c.index_mut-child.result.now in let k' = c.insert_below.new.self in
@@ -59,8 +68,10 @@ invariant_of-self-in_default t c =
     let f = way_in node x c.reached_near-reach.ensures c.saturating_sub-at.ensures c.index_mut-child.ensures.value
     c.requires in
     let up = subst (λ g. Grows k k' x c.in_ok-more-in-Inner.more g) c.in_default.is
-    c.in_ok-grown-in-Inner.ensures.ok in
-    (one_more node x c.reached_near-reach.ensures f k' _ c.lower.ensures up.0.0 up.0.1 up.1.1).inner
+    c.in_ok-grown-in-Inner.ensures.ok in (
+      (one_more node x c.reached_near-reach.ensures f k' _ c.lower.ensures up.0.0 up.0.1 up.1.1).inner,
+      marked c.in-Inner.is c.self.invariant c.saturating_sub-at.result k' _ (omega (arith, f.inside)) c.mark.ensures,
+    )
 
 pub returns-in_default-clause-ok : goal.returns-in_default-clause-ok
 returns-in_default-clause-ok t c =
@@ -100,6 +111,14 @@ add_child-requires-clause-in_range t c =
     let f = way_in node c.args.entry.now c.reached_near-reach.ensures c.saturating_sub-at.ensures
     c.index_mut-child.ensures.value c.requires in
     omega (arith, f.inside, c.in-Inner.children.ok.0)
+
+pub add_child-requires-clause-marked : goal.add_child-requires-clause-marked
+add_child-requires-clause-marked t c =
+    let node = over c.in-Inner.is c.self.invariant c.self.view_is in
+    let f = way_in node c.args.entry.now c.reached_near-reach.ensures c.saturating_sub-at.ensures
+    c.index_mut-child.ensures.value c.requires in
+    marked c.in-Inner.is c.self.invariant c.saturating_sub-at.result c.insert_below.new.self _ (omega (arith, f.inside))
+    c.mark.ensures
 
 pub returns-clause-ok : goal.returns-clause-ok
 returns-clause-ok t c = elim c.match-self.branch [
@@ -147,8 +166,12 @@ pub invariant_of-self-in_err-grown-in-Inner : goal.invariant_of-self-in_err-grow
 invariant_of-self-in_err-grown-in-Inner t c =
     let here = c.index_mut-child.ensures.value in
     let node = over c.in-Inner.is c.self.invariant c.self.view_is in
-    let f = way_in node c.args.entry.now c.reached_near-reach.ensures c.saturating_sub-at.ensures here c.requires in
-    (widened node f.child here c.in_err-grown-in-Inner.ensures.err).0
+    let f = way_in node c.args.entry.now c.reached_near-reach.ensures c.saturating_sub-at.ensures here c.requires in (
+      (widened node f.child here c.in_err-grown-in-Inner.ensures.err).0,
+      marks_are c.in-Inner.is c.self.invariant ∙
+          marks_same c.in-Inner.children.items c.saturating_sub-at.result c.index_mut-child.result.now
+          c.insert_below.new.self here (ap has_ghost c.in_err-grown-in-Inner.ensures.err.entries),
+    )
 
 pub returns-in_err-grown-in-Inner-clause-err : goal.returns-in_err-grown-in-Inner-clause-err
 returns-in_err-grown-in-Inner-clause-err t c =

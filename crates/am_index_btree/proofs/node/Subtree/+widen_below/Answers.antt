@@ -1,10 +1,12 @@
 use Rattle.std.proofs.Common.{◌≡◌, IsSome, OnErr, length, sym, ap, ◌∙◌, subst, rules, arith}
 use Rattle.am_index.specs.Entries.{find, IsRising}
 use Rattle.am_index.specs.Rooms.{HasRoom}
+use Rattle.am_index_leaf.specs.Ghosts.{has_ghost}
 use Rattle.am_index_btree.specs.Shape.{Shape}
 use Rattle.am_index_btree.specs.Rooms.{IsWidened}
 use Rattle.am_index_btree.specs.Nodes.{shape_of, IsTree, leaf_shape}
 use Rattle.am_index_btree.proofs.Inner.{over}
+use Rattle.am_index_btree.proofs.Marks.{marks_are, marks_same}
 use Rattle.am_index_btree.proofs.ChildEdits.{way_down, widened, room_got}
 use Rattle.am_index_btree.proofs.WiderRooms.{if_ok_map, on_err_map, leaf_widened}
 use Rattle.am_index_btree.proofs.node.Subtree.+widen_below.Goals as goal
@@ -40,8 +42,12 @@ invariant_of-self t c = elim c.match-self.branch [
       )
   | in-Inner w ↦
       let node = over w.in-Inner.is c.self.invariant c.self.view_is in
-      rw w.self-inside-is (widened node w.child_near-at.ensures w.index_mut.ensures.value
-      w.widen_below.ensures.widened).0
+      let here = w.index_mut.ensures.value in let e = w.widen_below.ensures.widened in
+      rw w.self-inside-is (
+        (widened node w.child_near-at.ensures here e).0,
+        marks_are w.in-Inner.is c.self.invariant ∙ marks_same w.in-Inner.children.items w.child_near-at.result
+            w.index_mut.result.now w.widen_below.new.self here (ap has_ghost e.entries),
+      )
 ]
 
 pub returns : goal.returns

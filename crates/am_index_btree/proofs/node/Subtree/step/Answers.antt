@@ -5,7 +5,7 @@ use Rattle.am_index_btree.proofs.node.Subtree.step.Goals as goal
 
 pub index-requires : goal.index-requires
 index-requires c =
-    let inner = subst IsTree c.in-Inner.is c.self.invariant in
+    let inner = (subst IsTree c.in-Inner.is c.self.invariant).0 in
     omega (
       arith,
       as_many c.in-Inner.separators c.in-Inner.children.items _ inner,

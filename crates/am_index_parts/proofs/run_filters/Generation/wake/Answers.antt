@@ -2,7 +2,7 @@ use Rattle.std.proofs.Common.{◌≡◌, ◌≢◌, ◌<◌, ◌≤◌, ◌⊎�
 use Rattle.std.proofs.Common.{⊎_elim, subst, arith}
 use Rattle.std.proofs.lemmas.Bool.{cases_eq}
 use Rattle.std.proofs.lemmas.List.{get_or-set_same, get_or-set_other}
-use Rattle.am_index_filter.specs.Covers.{covers}
+use Rattle.am_index_filter.specs.Covers.{is_covered}
 use Rattle.am_index_parts.specs.declared.run_filters.RunFilter.{RunFilter}
 use Rattle.am_index_parts.specs.RunFilters.{IsNamed}
 use Rattle.am_index_parts.proofs.Filters.{named_set, named_awake}
@@ -23,7 +23,7 @@ loop-at-preserved c =
       kept = λ live run n it. named_set live run n fs at old new c.index_mut.ensures.value
           (λ is. (
             c.wake.ensures.part ∙ is.0,
-            ap (λ (ws : List ℕ). covers ws n) c.wake.ensures.filter ∙ is.1,
+            ap (λ (ws : List ℕ). is_covered ws n) c.wake.ensures.filter ∙ is.1,
             λ yes. c.wake.ensures.kept (is.2 yes),
           )) (c.loop-at.invariant.kept live run n it);
       woken = λ k d lt is.
@@ -57,6 +57,6 @@ returns-clause-kept c = λ live run n it. record {
   from = subst (λ (p : ℕ). p ≤ run) (sym c.loop-at.invariant.first) it.from;
   to = subst (λ (p : ℕ). run ≤ p) (sym c.loop-at.invariant.last) it.to;
   awake = λ _. c.loop-at.invariant.awake;
-  covered = ap (λ (ws : List ℕ). covers ws n) c.loop-at.invariant.all ∙ it.covered;
+  covered = ap (λ (ws : List ℕ). is_covered ws n) c.loop-at.invariant.all ∙ it.covered;
   named = c.loop-at.invariant.kept live run n it.named;
 }
