@@ -1,7 +1,7 @@
 -- What is covered once more was entered.
-use Rattle.std.proofs.Common.{◌≡◌, ◌≢◌, ℕ, zero, suc, ◌+◌, ◌-◌, ◌*◌, ◌/◌, ◌%◌, ◌^◌, ◌<◌, ◌≤◌, ◌⊎◌, inl, inr, ⊎_elim}
-use Rattle.std.proofs.Common.{List, [], ◌∷◌, ◌++◌, length, get_or, set, replicate, Bool, true, false}
-use Rattle.std.proofs.Common.{◌||◌, lit<}
+use Rattle.std.proofs.Common.{◌≡◌, ◌≢◌, ℕ, zero, suc, ◌+◌, ◌*◌, ◌/◌, ◌%◌, ◌^◌, ◌<◌, ◌≤◌, ◌⊎◌, inl, inr, ⊎_elim}
+use Rattle.std.proofs.Common.{List, [], ◌∷◌, length, get_or, set, replicate, true, false}
+use Rattle.std.proofs.Common.{lit<}
 use Rattle.std.proofs.Common.{refl, sym, ap, ◌∙◌, subst, arith, bit_and, bit_or}
 use Rattle.std.specs.List.{fold, All}
 use Rattle.std.specs.Int.{bit_at}
@@ -12,7 +12,7 @@ use Rattle.std.proofs.lemmas.Nat.Bits.{bit_at_and, bit_at_or, same_from_bits}
 use Rattle.std.proofs.lemmas.Bool.{cases_eq, cases_lt}
 use Rattle.std.proofs.lemmas.Bool.Decides.{nat_tests}
 use Rattle.std.proofs.lemmas.List.{get_or-set_same, get_or-set_other, length-set, set_past}
-use Rattle.am_index_filter.specs.Covers.{place, mark, marks, has_all, is_covered, marked, empty_for}
+use Rattle.am_index_filter.specs.Covers.{place, mark, marks, has_all, is_marked, marked, empty_for}
 
 -- ---- bits
 
@@ -71,7 +71,7 @@ word_in : (words : List ℕ) (m n : ℕ) →
 word_in words m n = ap (λ (k : ℕ). get_or (marked words m) (place k n) 0)
     (length-set words (place (length words) m) (bit_or (word_of words m) (marks m)))
 
-pub covered_still : (words : List ℕ) (m n : ℕ) → is_covered words n ≡ true → is_covered (marked words m) n ≡ true
+pub covered_still : (words : List ℕ) (m n : ℕ) → is_marked words n ≡ true → is_marked (marked words m) n ≡ true
 covered_still words m n had =
     let all = from_test (word_of words n) (marks n) had in
     let set_word = bit_or (word_of words m) (marks m) in
@@ -86,7 +86,7 @@ covered_still words m n had =
     (ap (λ (k : ℕ). bit_and (get_or words k 0) (marks n)) (sym now.0) ∙ all))
     (word_set words (place (length words) m) (place (length words) n) set_word))
 
-pub covered_now : (words : List ℕ) (n : ℕ) → 0 < length words → is_covered (marked words n) n ≡ true
+pub covered_now : (words : List ℕ) (n : ℕ) → 0 < length words → is_marked (marked words n) n ≡ true
 covered_now words n some =
     let set_word = bit_or (word_of words n) (marks n) in
     to_test (word_of (marked words n) n) (marks n) (ap (λ (w : ℕ). bit_and w (marks n))
@@ -109,7 +109,7 @@ marked_is words n at was bits at_is was_is bits_is =
     λ j. set words (at_is j) (bit_or (word j) (bits_is j))
 
 -- no number is covered by empty words
-pub covers_none : (numbers n : ℕ) → is_covered (empty_for numbers) n ≡ false
+pub covers_none : (numbers n : ℕ) → is_marked (empty_for numbers) n ≡ false
 covers_none numbers n =
     let count = numbers / 4 + 1 in
     let words = replicate count 0 in
@@ -118,15 +118,15 @@ covers_none numbers n =
 
 -- ---- several
 
-pub covered_after : (words : List ℕ) (ms : List ℕ) (n : ℕ) → is_covered words n ≡ true →
-    is_covered (fold marked words ms) n ≡ true
+pub covered_after : (words : List ℕ) (ms : List ℕ) (n : ℕ) → is_marked words n ≡ true →
+    is_marked (fold marked words ms) n ≡ true
 covered_after words [] n had = had
 covered_after words (m ∷ ms) n had = covered_after (marked words m) ms n (covered_still words m n had)
 
 pub all_covered : (words : List ℕ) → 0 < length words → (ms : List ℕ) →
-    All (λ n. is_covered (fold marked words ms) n ≡ true) ms
-all_covered words some [] = All-nil (λ n. is_covered words n ≡ true)
-all_covered words some (m ∷ ms) = All-cons (λ n. is_covered (fold marked (marked words m) ms) n ≡ true) m ms
+    All (λ n. is_marked (fold marked words ms) n ≡ true) ms
+all_covered words some [] = All-nil (λ n. is_marked words n ≡ true)
+all_covered words some (m ∷ ms) = All-cons (λ n. is_marked (fold marked (marked words m) ms) n ≡ true) m ms
     (covered_after (marked words m) ms m (covered_now words m some))
     (all_covered (marked words m) (subst (λ (k : ℕ). 0 < k)
     (sym (length-set words (place (length words) m) (bit_or (word_of words m) (marks m)))) some) ms)

@@ -20,8 +20,8 @@ abbrev pub has_all : ℕ → ℕ → Bool
 has_all word bits = bit_and word bits == bits
 
 -- the number is covered: its word has all of its bits
-abbrev pub is_covered : List ℕ → ℕ → Bool
-is_covered words n = has_all (slice_index words (place (length words) n)) (marks n)
+abbrev pub is_marked : List ℕ → ℕ → Bool
+is_marked words n = has_all (slice_index words (place (length words) n)) (marks n)
 
 -- the words once the number was entered too
 abbrev pub marked : List ℕ → ℕ → List ℕ

@@ -2,7 +2,7 @@
 
 ghost use Rattle.std.specs.Prelude.{◌≡◌, ◌<◌, ◌^◌, ◌%◌, ℕ, true, length, IfOk, false};
 ghost use Rattle.std.specs.List.{fold, All};
-ghost use Rattle.am_index_filter.specs.Covers.{is_covered, empty_for, marked, marks as marks_of};
+ghost use Rattle.am_index_filter.specs.Covers.{is_marked, empty_for, marked, marks as marks_of};
 ghost use Rattle.am_index_filter.specs.Covers.{place as place_of};
 
 use am_record::NoMemory;
@@ -38,7 +38,7 @@ impl Filter {
     /// NoMemory, where memory was refused, or it would be for 2^34 numbers or more.
     pub fn new(alloc: Global, numbers: usize) -> Result<Filter, NoMemory>
         ensures empty { IfOk result (λ f. f ≡ empty_for numbers) }
-        ensures none { IfOk result (λ f. (n : ℕ) → is_covered f n ≡ false) }
+        ensures none { IfOk result (λ f. (n : ℕ) → is_marked f n ≡ false) }
     {
         let count = numbers / NUMBERS_A_WORD + 1;
         if count >= MOST {
@@ -59,7 +59,7 @@ impl Filter {
 
     /// Whether the number may have been entered: false only where it was not.
     pub fn may_have(&self, number: u64) -> bool
-        ensures { result ≡ is_covered self.now number }
+        ensures { result ≡ is_marked self.now number }
     {
         let bits = marks(number);
         self.words[self.place(number)] & bits == bits
@@ -68,8 +68,8 @@ impl Filter {
     /// Enters the number: from now on it is covered. Takes no memory.
     pub fn enter(&mut self, number: u64)
         ensures exact { self.new ≡ marked self.old number }
-        ensures covered { is_covered self.new number ≡ true }
-        ensures kept { (n : ℕ) → is_covered self.old n ≡ true → is_covered self.new n ≡ true }
+        ensures covered { is_marked self.new number ≡ true }
+        ensures kept { (n : ℕ) → is_marked self.old n ≡ true → is_marked self.new n ≡ true }
     {
         let place = self.place(number);
         self.words[place] |= marks(number);
@@ -78,8 +78,8 @@ impl Filter {
     /// Enters all of the numbers. Takes no memory. No word waits for another, so they come from memory at once.
     pub fn enter_all(&mut self, numbers: &[u64])
         ensures exact { self.new ≡ fold marked self.old numbers.now }
-        ensures covered { All (λ n. is_covered self.new n ≡ true) numbers.now }
-        ensures kept { (n : ℕ) → is_covered self.old n ≡ true → is_covered self.new n ≡ true }
+        ensures covered { All (λ n. is_marked self.new n ≡ true) numbers.now }
+        ensures kept { (n : ℕ) → is_marked self.old n ≡ true → is_marked self.new n ≡ true }
     {
         let _ = &self.words;
         for number in numbers {

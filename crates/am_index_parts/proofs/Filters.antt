@@ -1,9 +1,12 @@
 -- What filters say of runs, and of the entries that stand in them.
-use Rattle.std.proofs.Common.{◌≡◌, ◌≢◌, ◌⊎◌, inl, inr, ⊎_elim, ℕ, zero, suc, ◌+◌, ◌-◌, ◌<◌, ◌≤◌, Bool, true, false, cond, ◌||◌}
-use Rattle.std.proofs.Common.{List, [], ◌∷◌, ◌++◌, Option, Some, None, Result, Ok, Err, length, get_or, set, take, refl, sym, ap, ◌∙◌, subst, arith}
+use Rattle.std.proofs.Common.{◌≡◌, ◌≢◌, ◌⊎◌, inl, inr, ⊎_elim, ℕ, zero, suc, ◌-◌, ◌<◌, ◌≤◌, Bool, true, false, cond}
+use Rattle.std.proofs.Common.{◌||◌}
+use Rattle.std.proofs.Common.{List, [], ◌∷◌, ◌++◌, Option, Some, None, Result, Ok, Err, length, get_or, set, take}
+use Rattle.std.proofs.Common.{refl, sym, ap, ◌∙◌, subst, arith}
 use Rattle.std.specs.Prelude.{IsSome, OnOk, OnErr, is_some, filter, not, ◌==◌, ◌&&◌}
 use Rattle.std.specs.List.{AllByRecursion, All, list_any}
-use Rattle.std.proofs.lemmas.Bool.{cases_Bool, cond-true, cond-false, true≢false, false≢true, both_ways, ne_eqb, eq-eqb, and_from, or_left, or_right}
+use Rattle.std.proofs.lemmas.Bool.{cases_Bool, cond-true, cond-false, true≢false, false≢true, both_ways, ne_eqb}
+use Rattle.std.proofs.lemmas.Bool.{eq-eqb, and_from, or_from, or_parts, or_left, or_right}
 use Rattle.am_record.specs.OrderedKey.{OrderedKey}
 use Rattle.am_record.specs.KeyNumber.{key_number, numbers_of}
 use Rattle.am_record.specs.Plain.{Records}
@@ -17,7 +20,7 @@ use Rattle.am_index.specs.Entries.{Slot, find, insert_entry, set_entry, remove_e
 use Rattle.am_index.specs.Runs.{run_entries}
 use Rattle.am_index.proofs.Content.{slot_live}
 use Rattle.am_index.proofs.Edits.{find-hit, find-miss, set-hit, set-miss, one_place}
-use Rattle.am_index_filter.specs.Covers.{is_covered}
+use Rattle.am_index_filter.specs.Covers.{is_marked}
 use Rattle.am_index_parts.specs.declared.catalog.OpenRun.{OpenRun}
 use Rattle.am_index_parts.specs.declared.run_filters.Generation.{Generation}
 use Rattle.am_index_parts.specs.declared.run_filters.RunFilter.{RunFilter}
@@ -26,12 +29,12 @@ use Rattle.am_index_parts.specs.Catalogs.{parts_of, is_one_of, live_of}
 use Rattle.am_index_parts.specs.Partitions.{LivesInNoRun, settled, brought_home, gone_home, all_gone_home}
 use Rattle.am_index_parts.specs.RunFilters.{LivesInRun, IsNamed, IsNamedIn, MayBeIn, AreFiltered, may_have_any}
 use Rattle.am_index_parts.specs.RunFilters.{first_some, newest_of, newest_run}
-use Rattle.am_index_parts.proofs.Counts.{all_inserted, all_removed, all_set}
+use Rattle.am_index_parts.proofs.Counts.{all_inserted, all_removed}
 
 -- ---- the runs of a generation
 
 module _ (live : Bool) (run n : ℕ) where
-  pub named_last : (fs : List RunFilter) (f : RunFilter) → f.part ≡ run → is_covered f.filter n ≡ true →
+  pub named_last : (fs : List RunFilter) (f : RunFilter) → f.part ≡ run → is_marked f.filter n ≡ true →
       f.is_awake ≡ true → IsNamed live (fs ++ f ∷ []) run n
   named_last [] f is has awake = inl (is, has, λ _. awake)
   named_last (g ∷ fs) f is has awake = inr (named_last fs f is has awake)
@@ -43,7 +46,7 @@ module _ (live : Bool) (run n : ℕ) where
 
   -- what the filter says
   abbrev pub Is : RunFilter → Type 0
-  Is f = (f.part ≡ run) × (is_covered f.filter n ≡ true) × (live ≡ true → f.is_awake ≡ true)
+  Is f = (f.part ≡ run) × (is_marked f.filter n ≡ true) × (live ≡ true → f.is_awake ≡ true)
 
   named_up_to : (fs : List RunFilter) (i : ℕ) (x : RunFilter) → i < length fs → x ≡ get_or fs i x →
       IsNamed live (take (suc i) fs) run n → Is x ⊎ IsNamed live (take i fs) run n
@@ -72,9 +75,11 @@ module _ (live : Bool) (run n : ℕ) where
       (ap (is_one_of (parts_of runs)) here.0 ∙ stays))) (inl here)
   named_among runs (f ∷ fs) stays (inr later) =
       ⊎_elim
-      (λ yes. subst (λ (l : List RunFilter). IsNamed live l run n) (sym (cond-true (is_one_of (parts_of runs) f.part) _ _
+      (λ yes. subst (λ (l : List RunFilter). IsNamed live l run n) (sym (cond-true (is_one_of (parts_of runs) f.part)
+      _ _
       yes)) (inr (named_among runs fs stays later)))
-      (λ no. subst (λ (l : List RunFilter). IsNamed live l run n) (sym (cond-false (is_one_of (parts_of runs) f.part) _ _
+      (λ no. subst (λ (l : List RunFilter). IsNamed live l run n) (sym (cond-false (is_one_of (parts_of runs) f.part)
+      _ _
       no)) (named_among runs fs stays later))
       (cases_Bool (is_one_of (parts_of runs) f.part))
 
@@ -110,7 +115,8 @@ named_too run n (f ∷ fs) (inr later) = inr (named_too run n fs later)
 -- ---- generations
 
 module _ (live : Bool) (run n : ℕ) where
-  pub may_be_before : (gs : List Generation) (g : Generation) → MayBeIn live gs run n → MayBeIn live (gs ++ g ∷ []) run n
+  pub may_be_before : (gs : List Generation) (g : Generation) → MayBeIn live gs run n → MayBeIn live (gs ++ g ∷ [])
+      run n
   may_be_before [] g it = absurd it
   may_be_before (h ∷ gs) g (inl here) = inl here
   may_be_before (h ∷ gs) g (inr later) = inr (may_be_before gs g later)
@@ -171,39 +177,33 @@ may_be_too run n (g ∷ gs) (inr later) = inr (may_be_too run n gs later)
 
 -- ---- numbers that are in no run
 
-or_none : (a b : Bool) → (a || b) ≡ false → (a ≡ false) × (b ≡ false)
-or_none true b e = absurd (true≢false e)
-or_none false b e = (refl, e)
-
-both_none : (a b : Bool) → a ≡ false → b ≡ false → (a || b) ≡ false
-both_none true b e f = absurd (true≢false e)
-both_none false b e f = f
-
 asleep_or_none : (a b : Bool) → a ≡ true → (a && b) ≡ false → b ≡ false
 asleep_or_none a b awake e = ap (λ (x : Bool). x && b) (sym awake) ∙ e
 
 fewer_none : (a b c : Bool) → (a && (b || c)) ≡ false → (a && c) ≡ false
-fewer_none true b c e = (or_none b c e).1
+fewer_none true b c e = (or_parts b c e).1
 fewer_none false b c e = e
 
 none_first : (gs : List Generation) (n : ℕ) (ns : List ℕ) (run : ℕ) → may_have_any gs (n ∷ ns) ≡ false →
     MayBeIn true gs run n → ⊥
 none_first [] n ns run none it = it
 none_first (g ∷ gs) n ns run none (inl here) =
-    let parts = or_none (g.is_awake && list_any (λ m. is_covered g.all m) (n ∷ ns)) (may_have_any gs (n ∷ ns)) none in
-    both_ways (is_covered g.all n) (or_none (is_covered g.all n) (list_any (λ m. is_covered g.all m) ns)
-    (asleep_or_none g.is_awake (list_any (λ m. is_covered g.all m) (n ∷ ns)) (here.awake refl) parts.0)).0 here.covered
+    let parts = or_parts (g.is_awake && list_any (λ m. is_marked g.all m) (n ∷ ns)) (may_have_any gs (n ∷ ns)) none in
+    both_ways (is_marked g.all n) (or_parts (is_marked g.all n) (list_any (λ m. is_marked g.all m) ns)
+    (asleep_or_none g.is_awake (list_any (λ m. is_marked g.all m) (n ∷ ns)) (here.awake refl) parts.0)).0 here.covered
 none_first (g ∷ gs) n ns run none (inr later) =
-    none_first gs n ns run (or_none (g.is_awake && list_any (λ m. is_covered g.all m) (n ∷ ns)) (may_have_any gs (n ∷ ns))
+    none_first gs n ns run (or_parts (g.is_awake && list_any (λ m. is_marked g.all m) (n ∷ ns)) (may_have_any gs (n ∷
+    ns))
     none).1 later
 
 none_later : (gs : List Generation) (n : ℕ) (ns : List ℕ) → may_have_any gs (n ∷ ns) ≡ false →
     may_have_any gs ns ≡ false
 none_later [] n ns none = refl
 none_later (g ∷ gs) n ns none =
-    let parts = or_none (g.is_awake && list_any (λ m. is_covered g.all m) (n ∷ ns)) (may_have_any gs (n ∷ ns)) none in
-    both_none (g.is_awake && list_any (λ m. is_covered g.all m) ns) (may_have_any gs ns)
-    (fewer_none g.is_awake (is_covered g.all n) (list_any (λ m. is_covered g.all m) ns) parts.0) (none_later gs n ns parts.1)
+    let parts = or_parts (g.is_awake && list_any (λ m. is_marked g.all m) (n ∷ ns)) (may_have_any gs (n ∷ ns)) none in
+    or_from (g.is_awake && list_any (λ m. is_marked g.all m) ns) (may_have_any gs ns)
+    (fewer_none g.is_awake (is_marked g.all n) (list_any (λ m. is_marked g.all m) ns) parts.0) (none_later gs n ns
+    parts.1)
 
 -- ---- entries
 
@@ -393,7 +393,8 @@ pub filtered_asleep : (es : List Entry) (old new : RunFilters) (part : ℕ) → 
     MayBeIn live new.generations.items run n) → live_of part es ≡ 0 → AreFiltered es old → AreFiltered es new
 filtered_asleep [] old new part same kept none are = tt
 filtered_asleep (e ∷ es) old new part same kept none are = (
-  (λ some. subst (λ (h : HashKey). MayBeIn (not e.is_ghost) new.generations.items e.part (key_number h e.key)) (sym same)
+  (λ some. subst (λ (h : HashKey). MayBeIn (not e.is_ghost) new.generations.items e.part (key_number h e.key)) (sym
+      same)
       (kept (not e.is_ghost) e.part (key_number old.hash e.key)
       (λ live is. counted_one e part es is live none) (are.0 some))),
   filtered_asleep es old new part same kept (counted_rest e part es none) are.1,
@@ -437,14 +438,14 @@ may_be_in_others live run n (g ∷ gs) (inr later) =
 -- ---- the newest run
 
 -- what is not said of a place is not found there
-pub not_said : (live : Bool) (run n : ℕ) (f : RunFilter) → live ≡ true → (f.is_awake && is_covered f.filter n) ≡ false →
-    (f.part ≡ run) × (is_covered f.filter n ≡ true) × (live ≡ true → f.is_awake ≡ true) → ⊥
-not_said live run n f is none it = both_ways (f.is_awake && is_covered f.filter n) none
-    (and_from f.is_awake (is_covered f.filter n) (it.2 is) it.1)
+pub not_said : (live : Bool) (run n : ℕ) (f : RunFilter) → live ≡ true → (f.is_awake && is_marked f.filter n) ≡ false →
+    (f.part ≡ run) × (is_marked f.filter n ≡ true) × (live ≡ true → f.is_awake ≡ true) → ⊥
+not_said live run n f is none it = both_ways (f.is_awake && is_marked f.filter n) none
+    (and_from f.is_awake (is_marked f.filter n) (it.2 is) it.1)
 
-pub not_said_in : (run n : ℕ) (g : Generation) → (g.is_awake && is_covered g.all n) ≡ false → IsNamedIn true g run n → ⊥
-not_said_in run n g none it = both_ways (g.is_awake && is_covered g.all n) none
-    (and_from g.is_awake (is_covered g.all n) (it.awake refl) it.covered)
+pub not_said_in : (run n : ℕ) (g : Generation) → (g.is_awake && is_marked g.all n) ≡ false → IsNamedIn true g run n → ⊥
+not_said_in run n g none it = both_ways (g.is_awake && is_marked g.all n) none
+    (and_from g.is_awake (is_marked g.all n) (it.awake refl) it.covered)
 
 first_of_three : (a b c : Option ℕ) → first_some (first_some a b) c ≡ first_some a (first_some b c)
 first_of_three None b c = refl
@@ -456,7 +457,7 @@ first_alone (Some run) = refl
 
 -- what one filter says
 abbrev pub newest_by : RunFilter → ℕ → Option ℕ
-newest_by f n = cond (f.is_awake && is_covered f.filter n) (Some f.part) None
+newest_by f n = cond (f.is_awake && is_marked f.filter n) (Some f.part) None
 
 pub newest_up_to : (n : ℕ) (fs : List RunFilter) (i : ℕ) (x : RunFilter) → i < length fs → x ≡ get_or fs i x →
     newest_of (take (suc i) fs) n ≡ first_some (newest_by x n) (newest_of (take i fs) n)
@@ -473,7 +474,7 @@ newest_below n fs at x some le is =
     ap (λ i. newest_of (take i fs) n) last ∙ newest_up_to n fs (at - 1) x (omega (arith, some, le)) is
 
 abbrev pub newest_in : Generation → ℕ → Option ℕ
-newest_in g n = cond (g.is_awake && is_covered g.all n) (newest_of g.runs.items n) None
+newest_in g n = cond (g.is_awake && is_marked g.all n) (newest_of g.runs.items n) None
 
 newest_run_up_to : (n : ℕ) (gs : List Generation) (i : ℕ) (x : Generation) → i < length gs → x ≡ get_or gs i x →
     newest_run (take (suc i) gs) n ≡ first_some (newest_in x n) (newest_run (take i gs) n)

@@ -1,18 +1,13 @@
 -- What an entry changes that settles in the final partition.
-use Rattle.std.proofs.Common.{◌≡◌, ◌≢◌, ◌<◌, ◌++◌, ◌⊎◌, inl, inr, ⊎_elim, ℕ, Bool, true, false, cond, List, []}
-use Rattle.std.proofs.Common.{◌∷◌, Option, Some, None, refl, sym, ap, ◌∙◌, subst, arith}
+use Rattle.std.proofs.Common.{◌≡◌, ℕ, Bool, false, cond, List}
+use Rattle.std.proofs.Common.{Option, Some, None, refl, sym, ap, subst}
 use Rattle.std.specs.Prelude.{IsSome, is_some}
-use Rattle.std.proofs.lemmas.Bool.{cases_Bool, cond-true, cond-false, true≢false, false≢true}
-use Rattle.std.proofs.lemmas.Option.{none-some, same_Some}
 use Rattle.am_record.specs.OrderedKey.{OrderedKey}
-use Rattle.am_record.specs.EntryOrder.{Place}
 use Rattle.am_record.specs.declared.entry.Entry.{Entry}
-use Rattle.am_index.specs.Content.{live_value}
 use Rattle.am_index.specs.Edits.{same_place}
-use Rattle.am_index.specs.Entries.{Slot, slot_of, find, insert_entry, set_entry, remove_entry, IsRising}
-use Rattle.am_index.proofs.Edits.{one_place, find-hit, find-miss, same_place-itself}
+use Rattle.am_index.specs.Entries.{Slot, slot_of, find, insert_entry, set_entry, IsRising}
 use Rattle.am_index.proofs.EditLaws.{edit_laws}
-use Rattle.am_index_parts.specs.Partitions.{AreWellFormed, settled}
+use Rattle.am_index_parts.specs.Partitions.{settled}
 
 -- ---- what is found after an edit
 

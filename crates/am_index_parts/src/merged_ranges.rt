@@ -28,10 +28,10 @@ impl MergedRange {
     fn with(&self, other: &MergedRange) -> Option<MergedRange>
         ensures { IfSome result (λ both. SayNoMore (self.now ∷ other.now ∷ []) (both ∷ [])) }
     {
-        if self.is_covered(other) {
+        if self.is_marked(other) {
             return Some(*self);
         }
-        if other.is_covered(self) {
+        if other.is_marked(self) {
             return Some(*other);
         }
         if self.first_run != other.first_run {
@@ -45,7 +45,7 @@ impl MergedRange {
     }
 
     // Whether it says what the other says, or more.
-    fn is_covered(&self, other: &MergedRange) -> bool {
+    fn is_marked(&self, other: &MergedRange) -> bool {
         self.range.encloses(&other.range) && self.first_run >= other.first_run
     }
 

@@ -55,7 +55,10 @@ fn these_live_in_none<I: PartIndex + Drop>(
         return true;
     }
     for pair in records {
-        if live_in_runs(index, filters, pair.0, Hint::none()).0.is_some() {
+        if live_in_runs(index, filters, pair.0, Hint::none())
+            .0
+            .is_some()
+        {
             return false;
         }
     }

@@ -1,6 +1,7 @@
 //! Which keys may be in which run.
 
-ghost use Rattle.std.specs.Prelude.{◌≡◌, ◌≢◌, ◌<◌, ◌≤◌, ◌↔◌, ◌&&◌, ℕ, Bool, List, [], true, false, length, get_or, IsSome, is_some};
+ghost use Rattle.std.specs.Prelude.{◌≡◌, ◌≢◌, ◌<◌, ◌≤◌, ◌↔◌, ◌&&◌, ℕ, Bool, List, [], true, false, length, get_or};
+ghost use Rattle.std.specs.Prelude.{IsSome, is_some};
 ghost use Rattle.std.specs.Prelude.{OnOk, IfOk, IfSome, IfNone};
 ghost use Rattle.std.specs.List.{All, list_any};
 ghost use Rattle.am_record.specs.KeyNumber.{key_number, numbers_of};
@@ -8,7 +9,7 @@ ghost use Rattle.am_record.specs.OrderedKey.{OrderedKey};
 ghost use Rattle.am_record.specs.declared.entry.Entry.{Entry};
 ghost use Rattle.am_index.specs.Content.{live_value};
 ghost use Rattle.am_index.specs.Entries.{find, set_entry};
-ghost use Rattle.am_index_filter.specs.Covers.{is_covered};
+ghost use Rattle.am_index_filter.specs.Covers.{is_marked};
 ghost use Rattle.am_index_parts.specs.Catalogs.{IsCatalog, PartsRise, parts_of, is_one_of};
 ghost use Rattle.am_index_parts.specs.RunFilters.{IsNamedIn, MayBeIn, AreFiltered, may_have_any};
 ghost use Rattle.am_index_parts.specs.RunFilters.{newest_of, newest_run};
@@ -41,7 +42,7 @@ pub(crate) struct RunFilter {
 impl RunFilter {
     /// Whether the key of the number may be live in the run.
     pub(crate) fn may_have(&self, number: u64) -> bool
-        ensures { result ≡ (self.now.is_awake && is_covered self.now.filter number) }
+        ensures { result ≡ (self.now.is_awake && is_marked self.now.filter number) }
     {
         self.is_awake && self.filter.may_have(number)
     }
@@ -111,7 +112,7 @@ impl Generation {
 
     /// Whether the key of the number may be live in one of its runs.
     pub(crate) fn may_have(&self, number: u64) -> bool
-        ensures { result ≡ (self.now.is_awake && is_covered self.now.all number) }
+        ensures { result ≡ (self.now.is_awake && is_marked self.now.all number) }
     {
         self.is_awake && self.all.may_have(number)
     }
@@ -119,7 +120,7 @@ impl Generation {
     // Whether one of the numbers may be that of a live entry. It goes through all, so their words come from memory at
     // once.
     fn may_have_any(&self, numbers: &[u64]) -> bool
-        ensures { result ≡ (self.now.is_awake && list_any (λ n. is_covered self.now.all n) numbers.now) }
+        ensures { result ≡ (self.now.is_awake && list_any (λ n. is_marked self.now.all n) numbers.now) }
     {
         if !self.is_awake {
             return false;
@@ -133,7 +134,7 @@ impl Generation {
 
     // One run more, with a filter of the numbers of its keys.
     fn push(&mut self, run: RunFilter, numbers: &[u64]) -> Result<(), NoMemory>
-        requires covered { All (λ n. is_covered run.filter n ≡ true) numbers.now }
+        requires covered { All (λ n. is_marked run.filter n ≡ true) numbers.now }
         requires awake { run.is_awake ≡ true }
         ensures entered { OnOk result (All (λ n. IsNamedIn true self.new run.part n) numbers.now) }
         ensures kept { (live : Bool) (part n : ℕ) → IsNamedIn live self.old part n → IsNamedIn live self.new part n }

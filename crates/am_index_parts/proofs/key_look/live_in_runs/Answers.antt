@@ -1,4 +1,4 @@
-use Rattle.std.proofs.Common.{◌≡◌, ◌-◌, ◌≤◌, ℕ, List, take, length, sym, ◌∙◌, ap, ⊎_elim, subst, true, false, arith}
+use Rattle.std.proofs.Common.{ℕ, List, length, sym, ◌∙◌, ⊎_elim, subst, true, arith}
 use Rattle.std.proofs.lemmas.List.{take_all}
 use Rattle.am_index_parts.specs.declared.run_filters.Generation.{Generation}
 use Rattle.am_index_parts.specs.declared.run_filters.RunFilter.{RunFilter}

@@ -1,4 +1,4 @@
-use Rattle.std.proofs.Common.{◌≡◌, ◌-◌, ℕ, refl, sym, ◌∙◌, ⊎_elim, subst, true, false, arith}
+use Rattle.std.proofs.Common.{ℕ, refl, sym, ◌∙◌, ⊎_elim, subst, true, arith}
 use Rattle.am_index_parts.specs.RunFilters.{LivesInRun}
 use Rattle.am_index_parts.proofs.Filters.{named_below, named_in_none, not_said}
 use Rattle.am_index_parts.proofs.KeyLooks.{found_live, not_found, said_of_none}

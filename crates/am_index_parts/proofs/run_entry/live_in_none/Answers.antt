@@ -1,10 +1,10 @@
-use Rattle.std.proofs.Common.{ℕ, ◌≡◌, ◌≤◌, ◌-◌, ◌+◌, ◌++◌, List, take, drop, length, sym, ◌∙◌, ap, subst, true, false, arith}
+use Rattle.std.proofs.Common.{ℕ, ◌≡◌, ◌-◌, ◌+◌, List, take, drop, sym, ◌∙◌, ap, subst, arith}
 use Rattle.std.proofs.Math.Seq.{take-add}
-use Rattle.std.proofs.lemmas.List.{take_all, take-map, drop-map}
+use Rattle.std.proofs.lemmas.List.{take-map, drop-map}
 use Rattle.std.specs.List.{AllByRecursion}
-use Rattle.am_record.specs.KeyNumber.{key_number, numbers_of}
+use Rattle.am_record.specs.KeyNumber.{key_number}
 use Rattle.am_record.proofs.FirstRows.{Record}
-use Rattle.am_record.proofs.Lists.{AllByRecursion-append, AllByRecursion-take, AllByRecursion-drop}
+use Rattle.am_record.proofs.Lists.{AllByRecursion-append}
 use Rattle.am_index_parts.specs.Partitions.{LivesInNoRun}
 use Rattle.am_index_parts.proofs.run_entry.live_in_none.Goals as goal
 
@@ -22,8 +22,12 @@ ask-preserved g c =
     let rs = c.args.records.now in
     let from = c.ask.from in
     let count = c.min-to.result - from in
-    let further : from + count ≡ c.min-to.result = omega (arith, c.min-to.ensures, c.saturating_add.ensures,
-    c.ask-test.true) in
+    let further : from + count ≡ c.min-to.result = omega (
+      arith,
+      c.min-to.ensures,
+      c.saturating_add.ensures,
+      c.ask-test.true,
+    ) in
     record {
       within = omega (arith, c.min-to.ensures);
       dead = subst (λ n. AllByRecursion (λ (r : Record). LivesInNoRun es r.0) (take n rs)) further

@@ -1,10 +1,6 @@
-use Rattle.std.proofs.Common.{◌≡◌, List, ℕ, Option, sym, ◌∙◌, ap, subst, true, false, arith}
-use Rattle.std.proofs.lemmas.List.{take_all}
-use Rattle.am_record.specs.declared.entry.Entry.{Entry}
-use Rattle.am_index_parts.specs.Partitions.{IsLiveEntry}
+use Rattle.std.proofs.Common.{List, ℕ, sym, ◌∙◌, ap}
 use Rattle.am_index_parts.specs.RunFilters.{may_have_any}
 use Rattle.am_index_parts.proofs.Filters.{none_lives}
-use Rattle.am_index_parts.proofs.KeyLooks.{said_of_some, said_of_none, not_all_absent}
 use Rattle.am_index_parts.proofs.run_entry.these_live_in_none.Goals as goal
 
 pub returns-then-not-may_have_any-clause-dead : goal.returns-then-not-may_have_any-clause-dead

@@ -1,4 +1,4 @@
-use Rattle.std.proofs.Common.{◌≡◌, ◌-◌, ℕ, Option, Some, None, List, take, sym, ◌∙◌, ap, true, false, arith}
+use Rattle.std.proofs.Common.{◌≡◌, ◌-◌, ℕ, Option, Some, None, take, sym, ◌∙◌, ap, arith}
 use Rattle.std.proofs.lemmas.Bool.{cond-true, cond-false}
 use Rattle.am_index_parts.specs.RunFilters.{first_some, newest_of}
 use Rattle.am_index_parts.proofs.Filters.{newest_by, newest_below}
@@ -9,7 +9,8 @@ returns-then-may_have c =
     let x = c.index-runs-at.result in
     let n = c.args.number in
     let older = newest_of (take (c.loop-at.at - 1) c.args.runs.now) n in
-    let here : newest_by x n ≡ Some x.part = cond-true _ (Some x.part) None (sym c.may_have.ensures ∙ c.if-may_have.true)
+    let here : newest_by x n ≡ Some x.part = cond-true _ (Some x.part) None (sym c.may_have.ensures ∙
+    c.if-may_have.true)
     in
     sym (c.loop-at.invariant ∙
     newest_below n c.args.runs.now c.loop-at.at x c.loop-at-test.true c.loop-at.auto.at c.index-runs-at.is ∙

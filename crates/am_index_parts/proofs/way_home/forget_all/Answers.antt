@@ -1,5 +1,4 @@
-use Rattle.std.proofs.Common.{◌≤◌, ◌++◌, List, length, drop, refl, sym, subst, arith}
-use Rattle.std.proofs.lemmas.List.{drop_all}
+use Rattle.std.proofs.Common.{◌++◌, List, drop, refl, subst}
 use Rattle.am_record.specs.declared.entry.Entry.{Entry}
 use Rattle.am_index_parts.specs.Catalogs.{IsCatalog}
 use Rattle.am_index_parts.proofs.Neighbours.{rising_left, next_found, next_live, next_out}

@@ -1,7 +1,5 @@
-use Rattle.std.proofs.Common.{◌≡◌, None, refl, sym, ap, subst, arith}
-use Rattle.am_index.specs.Entries.{find}
+use Rattle.std.proofs.Common.{refl, ap, arith}
 use Rattle.am_index_parts.specs.Partitions.{Partitions}
-use Rattle.am_index_parts.specs.RunFilters.{AreFiltered}
 use Rattle.am_index_parts.proofs.CatalogCalls.{ok_map}
 use Rattle.am_index_parts.proofs.Changes.{adds, adds_sound}
 use Rattle.am_index_parts.proofs.Filters.{filtered_more, filtered_where_added}

@@ -4,7 +4,6 @@ use Rattle.am_record.specs.KeyNumber.{numbers_of}
 use Rattle.am_record.specs.Plain.{insert_all}
 use Rattle.am_record.specs.declared.entry.Entry.{Entry}
 use Rattle.am_record.specs.declared.hash_key.HashKey.{HashKey}
-use Rattle.am_record.proofs.Outcomes.{on_ok}
 use Rattle.am_index.specs.Content.{content, HasContent}
 use Rattle.am_index.specs.Runs.{run_entries}
 use Rattle.am_index_parts.specs.Catalogs.{IsCatalog}
@@ -37,7 +36,8 @@ invariant_of-self-2 g c =
     (sym c.self.view_is) c.requires.above in
     let none = subst (λ (p : Partitions). NoneLiveIn p.entries 0 c.args.records.now) (sym c.self.view_is)
     c.requires.in_final in
-    let dead = all_absent c.self.invariant.0 c.args.records.now none.none (c.live_in_none.ensures.dead c.if-not-live_in_none.false) in
+    let dead = all_absent c.self.invariant.0 c.args.records.now none.none (c.live_in_none.ensures.dead
+    c.if-not-live_in_none.false) in
     let is = c.in_ok-append_run.ensures.ok in
     let numbers : c.in_ok-numbers.numbers.items ≡ numbers_of c.let_go.new.self.hash c.args.records.now =
     c.in_ok-numbers.ensures in
@@ -55,7 +55,8 @@ invariant_of-self-2 g c =
       subst (λ (es : List Entry). AreFiltered es c.enter_run.new.self) (sym is)
           (filtered_appended c.enter_run.new.self es
           (filtered_more es c.let_go.new.self c.enter_run.new.self c.enter_run.ensures.hash c.enter_run.ensures.kept
-          (c.let_go.ensures es (c.make_room.ensures.same es c.self.invariant.2) c.self.invariant.3)) (c.self.inside.runs + 1) c.args.records.now entered),
+          (c.let_go.ensures es (c.make_room.ensures.same es c.self.invariant.2) c.self.invariant.3))
+          (c.self.inside.runs + 1) c.args.records.now entered),
       subst (λ (es : List Entry). AreMerged es (c.self.inside.runs + 1) c.reserve.new.self.list.items) (sym is)
           (merged_appended es c.self.inside.runs c.args.records.now c.reserve.new.self.list.items
           (subst (AreMerged es c.self.inside.runs) (sym c.reserve.ensures) c.self.invariant.4)),
@@ -112,7 +113,8 @@ returns-clause-dead g c =
     let none = subst (λ (p : Partitions). NoneLiveIn p.entries 0 c.args.records.now) (sym c.self.view_is)
     c.requires.in_final in
     subst (λ (p : Partitions). AreAllAbsent p.entries c.args.records.now) c.self.view_is
-    (all_absent c.self.invariant.0 c.args.records.now none.none (c.live_in_none.ensures.dead c.if-not-live_in_none.false))
+    (all_absent c.self.invariant.0 c.args.records.now none.none (c.live_in_none.ensures.dead
+    c.if-not-live_in_none.false))
 
 pub returns-clause-content : goal.returns-clause-content
 returns-clause-content g c =

@@ -1,11 +1,9 @@
-use Rattle.std.proofs.Common.{◌≡◌, ◌∙◌, Option, Some, sym, subst, ap}
+use Rattle.std.proofs.Common.{◌∙◌, Option, sym, subst, ap}
 use Rattle.std.specs.Prelude.{is_some}
 use Rattle.std.specs.Option.{option_map}
-use Rattle.am_record.specs.EntryOrder.{Place}
 use Rattle.am_record.specs.declared.entry.Entry.{Entry}
 use Rattle.am_index.specs.Content.{live_value}
-use Rattle.am_index.specs.Entries.{slot_of, entry_at, remove_entry}
-use Rattle.am_index.proofs.Edits.{entry_at_place}
+use Rattle.am_index.specs.Entries.{slot_of}
 use Rattle.am_index_parts.specs.Catalogs.{IsCatalog}
 use Rattle.am_index_parts.specs.MergedRanges.{AreMerged}
 use Rattle.am_index_parts.specs.Partitions.{Partitions}
@@ -30,8 +28,7 @@ take-requires g c =
 pub invariant_of-self : goal.invariant_of-self
 invariant_of-self g c =
     let es = g.I.PartIndex.entries c.self.inside.index in
-    let x = c.remove-entry.result in
-    (
+    let x = c.remove-entry.result in (
       (takes (ap (λ (p : Partitions). p.entries) c.self.view_is) c.self.invariant.0 c.args.part c.args.key c.requires
           c.remove-entry.ensures.others).sound,
       c.self.invariant.1,

@@ -1,4 +1,4 @@
-use Rattle.std.proofs.Common.{◌≡◌, List, rules, sym, subst}
+use Rattle.std.proofs.Common.{List, rules, sym, subst}
 use Rattle.std.proofs.lemmas.Fn.{filter_same}
 use Rattle.am_index_parts.specs.Catalogs.{parts_of, is_one_of}
 use Rattle.am_index_parts.specs.declared.run_filters.RunFilter.{RunFilter}

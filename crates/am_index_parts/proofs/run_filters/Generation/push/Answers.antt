@@ -1,4 +1,4 @@
-use Rattle.std.proofs.Common.{◌≡◌, ◌≤◌, List, true, refl, sym, subst, arith}
+use Rattle.std.proofs.Common.{List, true, refl, sym, subst, arith}
 use Rattle.std.specs.Prelude.{slice_index_or}
 use Rattle.am_index_parts.specs.declared.run_filters.RunFilter.{RunFilter}
 use Rattle.am_index_parts.specs.RunFilters.{IsNamed}

@@ -1,7 +1,7 @@
 use Rattle.std.specs.Prelude.{slice_set}
-use Rattle.std.proofs.Common.{ℕ, get_or, ◌≡◌, ◌≢◌, Bool, true, List, sym, ap, ◌∙◌, subst}
+use Rattle.std.proofs.Common.{ℕ, get_or, ◌≡◌, Bool, List, sym, ap, ◌∙◌, subst}
 use Rattle.std.specs.List.{list_any}
-use Rattle.am_index_filter.specs.Covers.{is_covered}
+use Rattle.am_index_filter.specs.Covers.{is_marked}
 use Rattle.am_index_parts.specs.declared.run_filters.RunFilter.{RunFilter}
 use Rattle.am_index_parts.specs.RunFilters.{IsNamed}
 use Rattle.am_index_parts.proofs.Filters.{named_set, some_awake}
@@ -19,7 +19,7 @@ returns c = λ live run n other it.
     named_set live run n fs c.in-Some.at old new c.index_mut.ensures.value
     (λ is. (
       c.sleep.ensures.part ∙ is.0,
-      ap (λ (ws : List ℕ). is_covered ws n) c.sleep.ensures.filter ∙ is.1,
+      ap (λ (ws : List ℕ). is_marked ws n) c.sleep.ensures.filter ∙ is.1,
       λ yes. absurd (other yes (sym is.0 ∙ there)),
     )) it.named in
     record {

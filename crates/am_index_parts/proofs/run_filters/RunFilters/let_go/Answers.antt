@@ -1,4 +1,4 @@
-use Rattle.std.proofs.Common.{◌≡◌, List, length, length-set, rules, sym, ◌∙◌, subst}
+use Rattle.std.proofs.Common.{List, length, length-set, rules, sym, ◌∙◌, subst}
 use Rattle.std.specs.Prelude.{not, ◌==◌}
 use Rattle.std.proofs.lemmas.Fn.{filter_same}
 use Rattle.am_index_parts.specs.declared.run_filters.Generation.{Generation}
@@ -10,7 +10,8 @@ pub loop-at-preserved : goal.loop-at-preserved
 loop-at-preserved c = record {
   hash = c.loop-at.invariant.hash;
   many = length-set c.loop-at.self.generations.items c.loop-at.at c.let_go.new.self ∙ c.loop-at.invariant.many;
-  kept = λ live run n stays it. may_be_set live run n c.loop-at.self.generations.items c.loop-at.at c.index_mut.result.now
+  kept = λ live run n stays it. may_be_set live run n c.loop-at.self.generations.items c.loop-at.at
+      c.index_mut.result.now
       c.let_go.new.self c.index_mut.ensures.value (c.let_go.ensures live run n stays)
       (c.loop-at.invariant.kept live run n stays it);
 }

@@ -1,4 +1,4 @@
-use Rattle.std.proofs.Common.{◌≡◌, ◌-◌, ◌≤◌, ℕ, Option, Some, None, List, take, length, sym, ◌∙◌, ap, true, false, arith}
+use Rattle.std.proofs.Common.{◌≡◌, ◌-◌, ℕ, Option, None, List, take, sym, ◌∙◌, ap, arith}
 use Rattle.std.proofs.lemmas.Bool.{cond-true, cond-false}
 use Rattle.am_index_parts.specs.declared.run_filters.RunFilter.{RunFilter}
 use Rattle.am_index_parts.specs.RunFilters.{first_some, newest_of, newest_run}

@@ -1,10 +1,10 @@
-use Rattle.std.proofs.Common.{◌≡◌, ◌<◌, ℕ, Bool, true, false, refl, sym, ap, ◌∙◌, subst, arith}
+use Rattle.std.proofs.Common.{◌≡◌, Bool, false, sym, ◌∙◌, subst, arith}
 use Rattle.std.specs.Prelude.{not, nat_lt}
 use Rattle.std.proofs.lemmas.Bool.{ltb-false}
 use Rattle.am_index.specs.Entries.{set_entry}
 use Rattle.am_index_parts.specs.Catalogs.{live_of}
 use Rattle.am_index_parts.specs.RunFilters.{AreFiltered}
-use Rattle.am_index_parts.proofs.Alive.{contrary, differ, alike}
+use Rattle.am_index_parts.proofs.Alive.{contrary, differ}
 use Rattle.am_index_parts.proofs.Filters.{Says, filtered_set, filtered_woken, filtered_asleep, weaker}
 use Rattle.am_index_parts.proofs.run_filters.RunFilters.set.Goals as goal
 

@@ -1,4 +1,4 @@
-use Rattle.std.proofs.Common.{◌≡◌, ◌≢◌, ◌<◌, ℕ, List, length, get_or, set, length-set, true, false, sym, ap, ◌∙◌}
+use Rattle.std.proofs.Common.{◌≡◌, ◌≢◌, ℕ, get_or, set, length-set, true, false, sym, ap, ◌∙◌}
 use Rattle.std.proofs.Common.{⊎_elim, subst, arith}
 use Rattle.std.proofs.lemmas.Bool.{cases_eq}
 use Rattle.std.proofs.lemmas.List.{get_or-set_same, get_or-set_other}
@@ -22,7 +22,12 @@ loop-at-preserved c =
           ⊎_elim
           (λ (same : k ≡ at).
           let here : get_or (set gs at new) k d ≡ new = ap (λ (i : ℕ). get_or (set gs at new) i d) same ∙
-          get_or-set_same gs at new d (omega (arith, c.loop-at-test.true, c.loop-at.invariant.many, c.len-at-end.ensures))
+          get_or-set_same gs at new d (omega (
+            arith,
+            c.loop-at-test.true,
+            c.loop-at.invariant.many,
+            c.len-at-end.ensures,
+          ))
           in
           subst (λ (g : Generation). IsNamedIn true g part n) (sym here)
           (c.wake.ensures.woken n (subst (λ (g : Generation). IsNamedIn false g part n) here it)))
@@ -37,5 +42,10 @@ loop-at-preserved c =
 pub returns-clause-woken : goal.returns-clause-woken
 returns-clause-woken c = λ n it.
     may_be_woken c.args.part n c.loop-at.self.generations.items
-    (λ k d lt. c.loop-at.invariant.woken k d n (omega (arith, lt, c.loop-at.invariant.many, c.len-at-end.ensures,
-    c.loop-at-test.false))) it
+    (λ k d lt. c.loop-at.invariant.woken k d n (omega (
+      arith,
+      lt,
+      c.loop-at.invariant.many,
+      c.len-at-end.ensures,
+      c.loop-at-test.false,
+    ))) it
