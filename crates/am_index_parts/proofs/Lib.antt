@@ -11,7 +11,10 @@ pub mod OneRunMore
 pub mod KeyLooks
 pub mod Lives
 mod MergedKnowledge
+pub mod ApartRuns
 pub mod Filters
+pub mod KnownKeys
+mod RecordRanges
 pub mod RunNumbers
 mod Homes
 mod Changes

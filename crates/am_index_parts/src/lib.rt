@@ -10,6 +10,7 @@
 //!   right, and never needed.
 #![tactic(auto)]
 
+mod apart_runs;
 mod catalog;
 mod fault;
 mod key_look;
@@ -17,6 +18,7 @@ mod merged_ranges;
 mod parts;
 mod run_entry;
 mod run_filters;
+mod run_keys;
 mod run_numbers;
 mod way_home;
 
