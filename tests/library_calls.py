@@ -171,6 +171,20 @@ def ratio_of_looks(store: tiuvrokk.Store, *keys: bytes) -> float:
     return min(seconds[::2]) / min(seconds[1::2])
 
 
+def ratio_of_cleans(store: tiuvrokk.Store, key: bytes) -> float:
+    """How many times as long 2,000 clean steps of a key that has no record take as looks for it."""
+    looks, cleans = [], []
+    for _ in range(5):
+        with store.transaction() as tx:
+            began = time.process_time()
+            assert all(tx.get(key) is None for _ in range(2000))
+            looks.append(time.process_time() - began)
+        began = time.process_time()
+        assert not any(store.clean(key, key, 1) for _ in range(2000))
+        cleans.append(time.process_time() - began)
+    return min(cleans) / min(looks)
+
+
 def ghosts_in_many_runs() -> None:
     """A key that stands as deleted in 8,192 runs is looked for as fast as one that never stood anywhere."""
     tiuvrokk.upkeep(False)
@@ -260,6 +274,11 @@ def millions(path: str) -> None:
             tx.lock(b"", LAST)
             assert all(tx[key] == b"w" and tx[key[:7]] == b"v" for key in further[::10])
         assert store.entries() == MILLIONS + len(further)
+        # No look for a deleted record goes through those that stand, whether there is one elsewhere or not.
+        assert ratio_of_cleans(store, b"x") < 5
+        with store.transaction() as tx:
+            del tx[further[0]]
+        assert ratio_of_cleans(store, b"x") < 5
 
 
 def main(calls: int, seed: int) -> None:
