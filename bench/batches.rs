@@ -1,5 +1,6 @@
 //! Batches of records that come onto what is there: the time from a batch's coming to the first answer of it, of a read and of a
-//! scan behind it. Built and run by bench/batches, each way in a process of its own: batches WAY.
+//! scan behind it. Built and run by bench/batches, each way in a process of its own: batches WAY [FOLDER] [rising]. Records come in
+//! any order, or each batch behind all before it, and in order.
 //!
 //! It writes a line for each batch: the records that were there before, seconds to the first answer, microseconds of a read and
 //! of a scan of 100, the middle ones of some; and a last line, whose last figure is a scan where a hundred came before it.
@@ -195,12 +196,15 @@ extern "C" {
 const NO_SYNC: c_uint = 0x10000;
 const WRITE_MAP: c_uint = 0x80000;
 const READ_ONLY: c_uint = 0x20000;
+const APPEND: c_uint = 0x20000;
 const NEXT: c_uint = 8;
 const SET_RANGE: c_uint = 17;
 
 struct Lmdb {
     env: *mut c_void,
     dbi: c_uint,
+    // How it puts a record: anywhere, or behind all others.
+    put: c_uint,
 }
 
 impl Slice {
@@ -220,8 +224,9 @@ impl Slice {
 }
 
 impl Lmdb {
-    fn open(folder: &str) -> Lmdb {
-        let mut lmdb = Lmdb { env: null_mut(), dbi: 0 };
+    fn open(folder: &str, order: Order) -> Lmdb {
+        let put = if order == Order::Rising { APPEND } else { 0 };
+        let mut lmdb = Lmdb { env: null_mut(), dbi: 0, put };
         let path = CString::new(folder).unwrap();
         unsafe {
             assert_eq!(mdb_env_create(&mut lmdb.env), 0);
@@ -245,7 +250,7 @@ impl Way for Lmdb {
     fn add(&mut self, batch: &[Record]) {
         let tx = self.begin(0);
         for (key, value) in sorted(batch) {
-            assert_eq!(unsafe { mdb_put(tx, self.dbi, &mut Slice::of(&key), &mut Slice::of(&value), 0) }, 0);
+            assert_eq!(unsafe { mdb_put(tx, self.dbi, &mut Slice::of(&key), &mut Slice::of(&value), self.put) }, 0);
         }
         assert_eq!(unsafe { mdb_txn_commit(tx) }, 0);
     }
@@ -280,6 +285,13 @@ impl Way for Lmdb {
 
 // ---- the figures
 
+/// How the records come.
+#[derive(Clone, Copy, PartialEq)]
+enum Order {
+    Any,
+    Rising,
+}
+
 /// The middle one of the times of some calls, in microseconds.
 fn middle(times: usize, mut call: impl FnMut()) -> f64 {
     let mut all: Vec<f64> = (0..times)
@@ -293,11 +305,13 @@ fn middle(times: usize, mut call: impl FnMut()) -> f64 {
     all[times / 2]
 }
 
-fn measure(mut way: impl Way) {
+fn measure(mut way: impl Way, order: Order) {
     let mut numbers = Numbers(88_172_645_463_325_252);
     let mut keys: Vec<Text> = Vec::with_capacity(BATCH * BATCHES);
     for at in 0..BATCHES {
-        let batch: Vec<Record> = (0..BATCH).map(|n| (text(numbers.next()), text((at * BATCH + n) as u64))).collect();
+        let batch: Vec<Record> = (at * BATCH..(at + 1) * BATCH)
+            .map(|n| (text(if order == Order::Rising { n as u64 } else { numbers.next() }), text(n as u64)))
+            .collect();
         keys.extend(batch.iter().map(|record| record.0));
         let begin = Instant::now();
         way.add(&batch);
@@ -323,16 +337,19 @@ fn measure(mut way: impl Way) {
 }
 
 fn main() {
-    let words: Vec<String> = std::env::args().skip(1).collect();
+    let mut words: Vec<String> = std::env::args().skip(1).collect();
+    let is_rising = words.last().is_some_and(|word| word == "rising");
+    words.truncate(words.len() - usize::from(is_rising));
+    let order = if is_rising { Order::Rising } else { Order::Any };
     let map = |add| Map { map: BTreeMap::new(), add };
-    match [words[0].as_str(), words.get(1).map_or("", String::as_str)] {
-        ["tiuvrokk", ""] => measure(Store::open()),
-        ["map_sorted", ""] => measure(map(insert_sorted)),
-        ["map_append", ""] => measure(map(append)),
-        ["map_as_it_comes", ""] => measure(map(insert_as_it_comes)),
-        ["array", ""] => measure(Array(Vec::new())),
-        ["sqlite", ""] => measure(Table::new()),
-        ["lmdb", folder] if !folder.is_empty() => measure(Lmdb::open(folder)),
+    match words.iter().map(String::as_str).collect::<Vec<_>>()[..] {
+        ["tiuvrokk"] => measure(Store::open(), order),
+        ["map_sorted"] => measure(map(insert_sorted), order),
+        ["map_append"] => measure(map(append), order),
+        ["map_as_it_comes"] => measure(map(insert_as_it_comes), order),
+        ["array"] => measure(Array(Vec::new()), order),
+        ["sqlite"] => measure(Table::new(), order),
+        ["lmdb", folder] => measure(Lmdb::open(folder, order), order),
         _ => {
             eprintln!("batches: no such way");
             exit(2);
