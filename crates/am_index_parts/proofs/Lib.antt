@@ -11,10 +11,7 @@ pub mod OneRunMore
 pub mod KeyLooks
 pub mod Lives
 mod MergedKnowledge
-pub mod ApartRuns
 pub mod Filters
-pub mod KnownKeys
-mod RecordRanges
 pub mod RunNumbers
 mod Homes
 mod Changes

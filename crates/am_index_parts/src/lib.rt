@@ -10,7 +10,6 @@
 //!   right, and never needed.
 #![tactic(auto)]
 
-mod apart_runs;
 mod catalog;
 mod fault;
 mod key_look;
@@ -18,7 +17,6 @@ mod merged_ranges;
 mod parts;
 mod run_entry;
 mod run_filters;
-mod run_keys;
 mod run_numbers;
 mod way_home;
 

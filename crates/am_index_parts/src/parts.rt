@@ -19,8 +19,8 @@ use crate::catalog::Catalog;
 use crate::fault::RunFault;
 use crate::key_look::{live_at, live_in_runs};
 use crate::merged_ranges::MergedRanges;
-use crate::run_entry::enter_keys;
-use crate::run_keys::RunKeys;
+use crate::run_entry::live_in_none;
+use crate::run_filters::RunFilters;
 use crate::way_home::{forget_all, remove_all, settle_all};
 use am_index::{Batch, Figures, Hint, PLACES_AT_ONCE, PartIndex};
 use am_record::{Entry, HashKey, Key, NoMemory, Range, Value};
@@ -44,7 +44,7 @@ pub enum Vacancy {
 pub struct Parts<I: PartIndex + Drop> {
     index: I,
     catalog: Catalog,
-    keys: RunKeys,
+    filters: RunFilters,
     merged: MergedRanges,
     runs: u32,
 }
@@ -55,13 +55,13 @@ impl<I: PartIndex + Drop> Drop for Parts<I> {
         let Parts {
             index,
             catalog,
-            keys,
+            filters,
             merged,
             runs: _,
         } = self;
         drop(index);
         drop(catalog);
-        drop(keys);
+        drop(filters);
         drop(merged);
     }
 }
@@ -72,7 +72,7 @@ impl<I: PartIndex + Drop> Model for Parts<I> {
     ghost use Rattle.am_index_parts.specs.Catalogs.{IsCatalog};
     ghost use Rattle.am_index_parts.specs.MergedRanges.{AreMerged};
     ghost use Rattle.am_index_parts.specs.Partitions.{Partitions, partitions_code, AreWellFormed};
-    ghost use Rattle.am_index_parts.specs.RunKeys.{AreKnown};
+    ghost use Rattle.am_index_parts.specs.RunFilters.{AreFiltered};
     ghost use Rattle.am_record.specs.Limits.{last_run};
 
     ghost Value = { Partitions };
@@ -82,7 +82,7 @@ impl<I: PartIndex + Drop> Model for Parts<I> {
     ghost view = { λ p. record { entries = I.entries p.index; runs = p.runs; roomy = I.roomy p.index } };
 
     ghost invariant = { λ p. AreWellFormed (I.entries p.index) × (p.runs ≤ last_run) ×
-        IsCatalog (I.entries p.index) p.catalog × AreKnown (I.entries p.index) p.keys ×
+        IsCatalog (I.entries p.index) p.catalog × AreFiltered (I.entries p.index) p.filters ×
         AreMerged (I.entries p.index) p.runs p.merged.list.items × HaveRoom (I.entries p.index) (I.roomy p.index) };
 }
 
@@ -105,7 +105,7 @@ impl<I: PartIndex + Drop> Parts<I> {
         Parts {
             index,
             catalog: Catalog::new(alloc),
-            keys: RunKeys::new(alloc, hash),
+            filters: RunFilters::new(alloc, hash),
             merged: MergedRanges::new(alloc),
             runs: 0,
         }
@@ -158,7 +158,7 @@ impl<I: PartIndex + Drop> Parts<I> {
     pub fn hints(&self, records: &[(Key, Value)]) -> [Hint; PLACES_AT_ONCE] {
         let mut places = [(0, Key::least()); PLACES_AT_ONCE];
         for (place, pair) in places.iter_mut().zip(records) {
-            *place = (self.keys.first_run(pair.0).unwrap_or(0), pair.0);
+            *place = (self.filters.newest_run(pair.0).unwrap_or(0), pair.0);
         }
         let places = &places[..records.len().min(PLACES_AT_ONCE)];
         if !self.catalog.has_final() && places.iter().all(|place| place.0 == 0) {
@@ -326,7 +326,7 @@ impl<I: PartIndex + Drop> Parts<I> {
         ensures absent { IfNone result (LivesInNoRun self.now.entries key) }
         ensures sound { AreWellFormed self.now.entries }
     {
-        live_in_runs(&self.index, &self.keys, key, Hint::none()).0
+        live_in_runs(&self.index, &self.filters, key, Hint::none()).0
     }
 
     /// What a new record of the key meets, and a hint for its live entry, or for its place in the final partition. The
@@ -336,7 +336,7 @@ impl<I: PartIndex + Drop> Parts<I> {
         ensures sound { AreWellFormed self.now.entries }
         ensures room { HaveRoom self.now.entries self.now.roomy }
     {
-        let (found, next) = live_in_runs(&self.index, &self.keys, key, hint);
+        let (found, next) = live_in_runs(&self.index, &self.filters, key, hint);
         match found {
             Some(entry) => (Vacancy::Taken(entry), next),
             None => self.vacancy_in_final(key, next),
@@ -385,7 +385,7 @@ impl<I: PartIndex + Drop> Parts<I> {
     {
         // Read here, the number is known to fit its type.
         prove!(entry.part <= u32::MAX);
-        self.keys.make_room_for(entry.part, entry.key)?;
+        self.filters.make_room_for(entry.part, entry.key)?;
         self.catalog.add(entry.part, entry.is_ghost)?;
         self.merged.add(entry.part);
         insert_or_forget(&mut self.index, &mut self.catalog, entry, hint)
@@ -429,7 +429,7 @@ impl<I: PartIndex + Drop> Parts<I> {
     {
         let was_live = self.index.set(part, key, value, is_ghost, hint);
         self.catalog.mark(part, was_live, is_ghost);
-        self.keys.set(part, was_live, is_ghost, &self.catalog);
+        self.filters.set(part, was_live, is_ghost, &self.catalog);
     }
 
     /// Takes an entry out. The caller sees to it that it is there. Takes no memory.
@@ -465,7 +465,7 @@ impl<I: PartIndex + Drop> Parts<I> {
         let gone = &entries[..count];
         remove_all(&mut self.index, gone);
         forget_all(&mut self.catalog, gone);
-        self.keys.let_go(&self.catalog);
+        self.filters.let_go(&self.catalog);
         count
     }
 
@@ -525,8 +525,12 @@ impl<I: PartIndex + Drop> Parts<I> {
         let part = self.runs + 1;
         self.merged.reserve()?;
         self.catalog.make_room(records.len())?;
-        self.keys.let_go(&self.catalog);
-        enter_keys(&self.index, &mut self.keys, part, records)?;
+        self.filters.let_go(&self.catalog);
+        let numbers = self.filters.numbers(records)?;
+        if !live_in_none(&self.index, &self.filters, records, &numbers) {
+            return Err(RunFault::Taken);
+        }
+        self.filters.enter_run(part, &numbers)?;
         self.index.append_run(part, records)?;
         self.catalog.push(part, records.len());
         self.runs = part;

@@ -10,8 +10,8 @@ ghost use Rattle.am_record.specs.declared.entry.Entry.{Entry};
 ghost use Rattle.am_index.specs.Content.{live_value};
 ghost use Rattle.am_index.specs.Entries.{find, set_entry};
 ghost use Rattle.am_index_filter.specs.Covers.{is_marked};
-ghost use Rattle.am_index_parts.specs.Catalogs.{PartsRise, parts_of, is_one_of};
-ghost use Rattle.am_index_parts.specs.RunFilters.{IsNamedIn, MayBeIn, may_have_any};
+ghost use Rattle.am_index_parts.specs.Catalogs.{IsCatalog, PartsRise, parts_of, is_one_of};
+ghost use Rattle.am_index_parts.specs.RunFilters.{IsNamedIn, MayBeIn, AreFiltered, may_have_any};
 ghost use Rattle.am_index_parts.specs.RunFilters.{newest_of, newest_run};
 
 use crate::catalog::Catalog;
@@ -211,7 +211,9 @@ pub(crate) struct RunFilters {
 
 impl RunFilters {
     /// Those of no run. It takes no memory.
-    pub(crate) fn new(alloc: Global, hash: HashKey) -> RunFilters {
+    pub(crate) fn new(alloc: Global, hash: HashKey) -> RunFilters
+        ensures { AreFiltered [] result }
+    {
         RunFilters {
             hash,
             generations: Vec::new(alloc),
@@ -225,18 +227,6 @@ impl RunFilters {
         ensures { result.now ≡ self.now.generations.items }
     {
         &self.generations
-    }
-
-    /// By what the numbers are made.
-    pub(crate) fn hash(&self) -> HashKey
-        ensures { result ≡ self.now.hash }
-    {
-        self.hash
-    }
-
-    /// Where their memory comes from.
-    pub(crate) fn alloc(&self) -> Global {
-        self.alloc
     }
 
     /// The number of the key.
@@ -296,6 +286,24 @@ impl RunFilters {
         Ok(())
     }
 
+    /// Gets room for an entry of the partition, by entering its key. The final one needs none.
+    ///
+    /// # Errors
+    /// NoMemory, where memory was refused.
+    pub(crate) fn make_room_for(&mut self, part: u32, key: Key) -> Result<(), NoMemory>
+        ensures entered { OnOk result (0 < part →
+            MayBeIn true self.new.generations.items part (key_number self.new.hash key)) }
+        ensures kept { (live : Bool) (run n : ℕ) → MayBeIn live self.old.generations.items run n →
+            MayBeIn live self.new.generations.items run n }
+        ensures hash { self.new.hash ≡ self.old.hash }
+    {
+        if part == 0 {
+            return Ok(());
+        }
+        let number = self.number(key);
+        self.enter_run(part, &[number])
+    }
+
     // Begins a generation, where a run of so many keys belongs to the next one.
     fn make_room(&mut self, keys: usize) -> Result<(), NoMemory>
         ensures some { OnOk result (0 < length self.new.generations.items) }
@@ -323,8 +331,30 @@ impl RunFilters {
         Some(more.max(keys).max(FEWEST_KEYS))
     }
 
-    /// Puts the run to sleep, which has no live entry.
-    pub(crate) fn sleep(&mut self, part: u32)
+    /// Notes that an entry is written over, which was live or a ghost. The catalog counts the entries as they are then.
+    /// Takes no memory.
+    pub(crate) fn set(&mut self, part: u32, was_live: bool, is_ghost: bool, catalog: &Catalog)
+        requires { (es : List Entry) × IsCatalog es catalog.now }
+        ensures { (es : List Entry) (key : OrderedKey) (value : List ℕ) → IsSome (find es part key) →
+            was_live ≡ is_some (live_value (find es part key)) →
+            IsCatalog (set_entry es part key value is_ghost) catalog.now → AreFiltered es self.old →
+            AreFiltered (set_entry es part key value is_ghost) self.new }
+    {
+        if part == 0 {
+            return;
+        }
+        if was_live != is_ghost {
+            return;
+        }
+        if !is_ghost {
+            self.wake(part);
+        } else if !catalog.has_live(part) {
+            self.sleep(part);
+        }
+    }
+
+    // Puts the run to sleep, which has no live entry.
+    fn sleep(&mut self, part: u32)
         ensures kept { (live : Bool) (run n : ℕ) → (live ≡ true → run ≢ part) →
             MayBeIn live self.old.generations.items run n → MayBeIn live self.new.generations.items run n }
         ensures hash { self.new.hash ≡ self.old.hash }
@@ -336,8 +366,8 @@ impl RunFilters {
         }
     }
 
-    /// Wakes the run.
-    pub(crate) fn wake(&mut self, part: u32)
+    // Wakes the run.
+    fn wake(&mut self, part: u32)
         ensures woken { (n : ℕ) → MayBeIn false self.new.generations.items part n →
             MayBeIn true self.new.generations.items part n }
         ensures kept { (live : Bool) (run n : ℕ) → MayBeIn live self.old.generations.items run n →
@@ -351,13 +381,11 @@ impl RunFilters {
 
     /// Lets filters go of runs that have no entries, where they are many. Takes no memory.
     pub(crate) fn let_go(&mut self, catalog: &Catalog)
-        requires { PartsRise (parts_of catalog.now.runs.items) }
-        ensures kept { (live : Bool) (run n : ℕ) → is_one_of (parts_of catalog.now.runs.items) run ≡ true →
-            MayBeIn live self.old.generations.items run n → MayBeIn live self.new.generations.items run n }
-        ensures hash { self.new.hash ≡ self.old.hash }
+        requires { (es : List Entry) × IsCatalog es catalog.now }
+        ensures { (es : List Entry) → IsCatalog es catalog.now → AreFiltered es self.old → AreFiltered es self.new }
     {
         let open = catalog.runs().len();
-        if open > 0 && self.runs <= open.saturating_mul(2).saturating_add(FEWEST_GONE) {
+        if self.runs <= open.saturating_mul(2).saturating_add(FEWEST_GONE) {
             return;
         }
         for at in 0..self.generations.len() {
