@@ -519,7 +519,8 @@ def pictures(folder: str) -> None:
             wanted("a row of deleted records", found, row)
     status, picture, said = run(AMDRAW, text=TRACE)
     wanted("a picture", (status, said), (0, ""))
-    wanted("the same in version 3", run(AMDRAW, text=TRACE.replace("TRACE 2", "TRACE 3", 1)), (0, picture, ""))
+    for first in ("TRACE 3", "TRACE 4 4294967294 32 64 256 4096", "TRACE 4 2 32 64 256 4096"):
+        wanted(f"the same under {first}", run(AMDRAW, text=TRACE.replace("TRACE 2", first, 1)), (0, picture, ""))
     told = [it.text or "" for it in ElementTree.fromstring(picture).iter("{http://www.w3.org/2000/svg}text")]
     for text in ("6 records in 2 runs, keys from left to right", "67 % left", "33 % left", "busy", "abort", "50 %"):
         if text not in told:
@@ -532,7 +533,8 @@ def pictures(folder: str) -> None:
     bad = run(AMDRAW, text="TRACE 2\nBEGIN | BEGUN 1\nFOO\n")
     wanted("a bad line", bad, (3, "", "amdraw: line 3: it is none of a trace\n"))
     wanted("no run", run(AMDRAW, text="foo\n")[0], 3)
-    wanted("no version", run(AMDRAW, text="TRACE 4\n")[0], 3)
+    for first in ("TRACE 4", "TRACE 4 0 32 64 256 4096", "TRACE 4 4294967295 32 64 256 4096", "TRACE 4 7 32 64 256 4095"):
+        wanted("no first line", run(AMDRAW, text=f"{first}\n"), (3, "", "amdraw: line 1: it names no version of a trace\n"))
     wanted("no file", run(AMDRAW, f"{folder}/none"), (4, "", f"amdraw: {folder}/none: No such file or directory\n"))
 
 

@@ -579,6 +579,13 @@ def kept_and_full(folder: str) -> None:
     client.quit()
     server.closed()
     wanted("the same at the end", trace_lines(kept), ["TRACE 2"])
+    server = serve(1, 0, kept)
+    client = Client(server.port)
+    wanted("a step that version 3 alone writes", asked(client, "BEGIN", "SET 5 a", "COMMIT"), "BEGUN 1 / OK / COMMITTED 1")
+    client.quit()
+    server.closed()
+    wanted("its trace", trace_lines(kept), ["TRACE 3", "BEGIN | BEGUN 1", "SET 1 h35 h61 | OK", "COMMIT 1 | COMMITTED 1"])
+    wanted("its judgement", audit(kept), "LEGAL 1")
     if os.path.exists("/dev/full"):
         server = serve(1, 0, "/dev/full")
         Client(server.port).quit()

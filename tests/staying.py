@@ -302,7 +302,7 @@ def loads_without_end(trace: str, loads: int) -> None:
     client.quit()
     stopped(server)
     with open(trace, encoding="ascii") as file:
-        wanted("the first line of the trace", file.readline(), "TRACE 3\n")
+        wanted("the first line of the trace", file.readline(), "TRACE 4 4294967294 32 64 256 4096\n")
     wanted("audit", audit(trace), f"LEGAL {loads // 250 + 1}")
 
 

@@ -1,5 +1,6 @@
 """Things that tests of the programs share: the programs, sessions with a server, and lines that look drawn."""
 
+import atexit
 import contextlib
 import os
 import random
@@ -22,9 +23,35 @@ LIMIT = 120
 
 
 def fail(text: str) -> NoReturn:
-    """Ends the test, which is told by the name of its file."""
+    """Ends the test, which is told by the name of its file. On a thread it ends that thread, and the test has failed all the same."""
     print(f"{os.path.basename(sys.argv[0])}: {text}")
     sys.exit(1)
+
+
+class FailedThreads:
+    """Whether a thread of the test ended by `fail`, which Python passes over: then the test's status is 1."""
+
+    def __init__(self) -> None:
+        self.any = False
+        self.hook = threading.excepthook
+        threading.excepthook = self.ended
+        # (registered first, so it comes last)
+        atexit.register(self.end)
+
+    def ended(self, why: threading.ExceptHookArgs) -> None:
+        """A thread ended by an exception."""
+        self.any = self.any or why.exc_type is SystemExit
+        self.hook(why)
+
+    def end(self) -> None:
+        """The test ends."""
+        if self.any:
+            sys.stdout.flush()
+            sys.stderr.flush()
+            os._exit(1)
+
+
+FAILED_THREADS = FailedThreads()
 
 
 def wanted(what: str, found: Any, right: Any) -> None:

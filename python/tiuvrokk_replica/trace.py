@@ -5,6 +5,8 @@ from typing import List, TextIO
 
 from tiuvrokk_tools.verbs import STAGING
 
+# The first line: a replica goes on in another store where one is out of runs, so all together make as many as have numbers.
+FIRST = "TRACE 4 4294967294 32 64 256 4096"
 # Answers to lines that take no step of the store.
 NO_STEP = frozenset((b"ERR SYNTAX", b"ERR RANGE", b"ERR ACTIVE", b"ERR LONG"))
 
@@ -50,7 +52,7 @@ class Trace:
 
     def begin(self) -> None:
         self.file.truncate(0)
-        self.file.write("TRACE 3\n")
+        self.file.write(f"{FIRST}\n")
         self.file.flush()
 
     def write(self, lines: List[bytes], answers: List[bytes]) -> None:

@@ -15,6 +15,9 @@ from typing import Deque, Dict, List, NamedTuple, Optional, Set, Tuple
 from .program import Stop
 
 MOST_WISHES = 64
+# The first line: a version, or the limits of the store, of which the runs alone may be others than the profile's.
+FIRST = re.compile(rb"TRACE (?:[123]|4 ([1-9][0-9]{0,9}) 32 64 256 4096)")
+LAST_RUN = 4_294_967_294
 LINE = re.compile(rb"([A-Z]+)((?: [^ |]+)*) \| ([A-Z]+)((?: [^ |]+)*)")
 KEY = re.compile(rb"h((?:[0-9a-f]{2})*)|([0-9]{1,20})")
 
@@ -312,7 +315,8 @@ def followed(text: bytes) -> Merging:
     """Follows the text of a trace. The first line that is none of one ends all."""
     merging = Merging()
     lines = text.split(b"\n")
-    if lines[0] not in (b"TRACE 1", b"TRACE 2", b"TRACE 3"):
+    first = FIRST.fullmatch(lines[0])
+    if not first or int(first.group(1) or 1) > LAST_RUN:
         raise Stop(3, "line 1: it names no version of a trace")
     for number, line in enumerate(lines[1:], 2):
         if not line and number == len(lines):

@@ -1,6 +1,6 @@
 -- Runs that are loaded one after another.
 use Rattle.std.proofs.Common.{◌≡◌, ◌≢◌, ℕ, ◌+◌, ◌^◌, ◌<◌, List, [], ◌∷◌, length, Some, None}
-use Rattle.std.proofs.Common.{refl, sym, ap, subst, arith, length-append, take, drop, inl, inr}
+use Rattle.std.proofs.Common.{refl, sym, ap, ◌∙◌, subst, arith, length-append, take, drop, inl, inr, ⊎_elim}
 use Rattle.std.specs.Prelude.{slice_get}
 use Rattle.std.proofs.lemmas.Option.{none-some}
 use Rattle.std.proofs.lemmas.List.{take-append-drop}
@@ -15,7 +15,7 @@ use Rattle.am_law_sound.specs.StoreState.{StoreState}
 use Rattle.am_c_steps.specs.declared.bringing.Bringing.{Bringing}
 use Rattle.am_c_steps.specs.Bringings.{brings}
 use Rattle.am_c_store.specs.StoreSteps.{Takes}
-use Rattle.am_c_store.specs.Loads.{LoadGoesOn, LoadInTurn}
+use Rattle.am_c_store.specs.Loads.{Brings, LoadGoesOn, LoadInTurn}
 
 -- the runs in front of the rest were loaded, which have so many records: loading the rest is loading all
 pub record IsLoading (tx : ℕ) (bringing : Bringing) (all : List Records) (old : StoreState) (rest : List Records)
@@ -45,22 +45,24 @@ first_of : (rest : List Records) (run : Records) → Some run ≡ slice_get rest
 first_of [] run is = cc
 first_of (r ∷ rest) run is = let same : r ≡ run = cc in ap (λ (s : Records). s ∷ rest) same
 
+pub sum_fits : (tx : ℕ) (bringing : Bringing) (all rest : List Records) (old p : StoreState) (records : ℕ)
+    (run : Records) → IsLoading tx bringing all old rest records p → Some run ≡ slice_get rest 0 →
+    length (records_of all) < 2 ^ 64 → records + length run < 2 ^ 64
+sum_fits tx bringing all rest old p records run h next few = omega (
+  arith,
+  h.sum,
+  few,
+  ap (λ (rs : List Records). length (records_of rs)) (first_of rest run next),
+  length-append run (records_of (drop 1 rest)),
+)
+
 module _ (tx : ℕ) (bringing : Bringing) (all rest : List Records) (old p q : StoreState) (records : ℕ) (run : Records)
     (reply : Reply) (h : IsLoading tx bringing all old rest records p) (next : Some run ≡ slice_get rest 0)
     (takes : Takes p (Do tx (brings bringing run)) reply q) where
   is : rest ≡ run ∷ drop 1 rest
   is = first_of rest run next
 
-  pub sum_fits : length (records_of all) < 2 ^ 64 → records + length run < 2 ^ 64
-  sum_fits few = omega (
-    arith,
-    h.sum,
-    few,
-    ap (λ (rs : List Records). length (records_of rs)) is,
-    length-append run (records_of (drop 1 rest)),
-  )
-
-  pub goes_on : reply ≡ Done → IsLoading tx bringing all old (drop 1 rest) (records + length run) q
+  goes_on : reply ≡ Done → IsLoading tx bringing all old (drop 1 rest) (records + length run) q
   goes_on done = record {
     on = λ more last new turns.
         let first : LoadInTurn tx bringing (run ∷ drop 1 rest) p (length run + more) last new =
@@ -82,7 +84,7 @@ module _ (tx : ℕ) (bringing : Bringing) (all rest : List Records) (old p q : S
     );
   }
 
-  pub ends : reply ≢ Done → LoadInTurn tx bringing all old records reply q
+  ends : reply ≢ Done → LoadInTurn tx bringing all old records reply q
   ends not =
       let first : LoadInTurn tx bringing (run ∷ drop 1 rest) p 0 reply q =
       inr (reply, q, takes, refusal run (LoadInTurn tx bringing (drop 1 rest)) reply q not) in
@@ -91,7 +93,7 @@ module _ (tx : ℕ) (bringing : Bringing) (all rest : List Records) (old p q : S
       (h.on 0 reply q (subst (λ (rs : List Records). LoadInTurn tx bringing rs p 0 reply q) (sym is) first))
 
 -- there is a run left, and no room for it
-pub has_no_room : (tx : ℕ) (bringing : Bringing) (all rest : List Records) (old p : StoreState) (records : ℕ) →
+has_no_room : (tx : ℕ) (bringing : Bringing) (all rest : List Records) (old p : StoreState) (records : ℕ) →
     IsLoading tx bringing all old rest records p → 0 < length rest → LoadInTurn tx bringing all old records
     (Refused NoMemory) p
 has_no_room tx bringing all [] old p records h left = absurd (omega (arith, left))
@@ -99,6 +101,25 @@ has_no_room tx bringing all (run ∷ rest) old p records h left =
     let none : records + 0 ≡ records = omega arith in
     subst (λ (n : ℕ). LoadInTurn tx bringing all old n (Refused NoMemory) p) none
     (h.on 0 (Refused NoMemory) p (inl (refl, refl, refl)))
+
+module _ (tx : ℕ) (bringing : Bringing) (all rest : List Records) (old p q : StoreState) (records : ℕ) (run : Records)
+    (reply : Reply) (h : IsLoading tx bringing all old rest records p) (next : Some run ≡ slice_get rest 0)
+    (brought : Brings p tx bringing run reply q) where
+  pub brought_in : reply ≡ Done → IsLoading tx bringing all old (drop 1 rest) (records + length run) q
+  brought_in done = ⊎_elim
+      (λ takes. goes_on tx bringing all rest old p q records run reply h next takes done)
+      (λ refused. absurd (not_done (sym refused.0 ∙ done))) brought
+    where
+      not_done : ◌≡◌ {A = Reply} (Refused NoMemory) Done → ⊥
+      not_done e = cc
+
+  pub not_brought : reply ≢ Done → LoadInTurn tx bringing all old records reply q
+  not_brought not = ⊎_elim
+      (λ takes. ends tx bringing all rest old p q records run reply h next takes not)
+      (λ refused. subst (λ (r : Reply). LoadInTurn tx bringing all old records r q) (sym refused.0)
+      (subst (λ (s : StoreState). LoadInTurn tx bringing all old records (Refused NoMemory) s) (sym refused.1)
+      (has_no_room tx bringing all rest old p records h
+      (omega (arith, ap (λ (rs : List Records). length rs) (first_of rest run next)))))) brought
 
 pub is_over : (tx : ℕ) (bringing : Bringing) (all rest : List Records) (old p : StoreState) (records : ℕ) →
     IsLoading tx bringing all old rest records p → None ≡ slice_get rest 0 → LoadInTurn tx bringing all old records Done

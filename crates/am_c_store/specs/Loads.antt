@@ -45,6 +45,11 @@ abbrev pub LoadGoesOn : Records → (StoreState → ℕ → Reply → StoreState
 LoadGoesOn run Others Done p loaded reply new = (more : ℕ) × (loaded ≡ length run + more) × Others p more reply new
 LoadGoesOn run Others first p loaded reply new = (loaded ≡ 0) × (reply ≡ first) × (new ≡ p)
 
+-- the run was brought in by a step of its own, or memory was refused before it was asked for, and nothing is done
+abbrev pub Brings : StoreState → ℕ → Bringing → Records → Reply → StoreState → Type 0
+Brings old tx bringing run reply new =
+    Takes old (Do tx (brings bringing run)) reply new ⊎ ((reply ≡ Refused NoMemory) × (new ≡ old))
+
 -- memory was refused for the next run, so that nothing is done any more
 abbrev pub HasNoRoom : StoreState → ℕ → Reply → StoreState → Type 0
 HasNoRoom old loaded reply new = (loaded ≡ 0) × (reply ≡ Refused NoMemory) × (new ≡ old)

@@ -1,13 +1,14 @@
 //! Records in any order: they are cut into runs, and these are loaded or put in turn.
 
-ghost use Rattle.std.specs.Prelude.{◌≡◌, ◌<◌, ◌^◌, [], Some, Ok, Err, length};
+ghost use Rattle.std.specs.Prelude.{◌≡◌, ◌<◌, ◌^◌, [], Some, Ok, Err, length, true};
+ghost use Rattle.am_record.specs.Plain.{is_rising};
 ghost use Rattle.am_store_runs.specs.Cuts.{records_of};
 ghost use Rattle.am_c_steps.specs.LoadAnswers.{without_key, load_key_told};
 ghost use Rattle.am_c_steps.specs.Statuses.{status, number};
-ghost use Rattle.am_c_store.specs.Loads.{given_by, LoadInTurn, Loads, TellsRuns};
+ghost use Rattle.am_c_store.specs.Loads.{given_by, Brings, LoadInTurn, Loads, TellsRuns};
 
 use crate::handle::Handle;
-use crate::store_steps::take_there;
+use crate::store_steps::{load_there, take_there};
 use am_c_steps::{
     Bringing, KeyText, LoadFailure, Status, failure_of, number_told, status_told, tell_load_key,
     without_key,
@@ -15,7 +16,7 @@ use am_c_steps::{
 use am_index_btree::BTree;
 use am_record::{MAX_RUN_RECORDS, Records, Refusal, Reply, Step};
 use am_store::Store;
-use am_store_runs::{Cut, RecordSource, cut_source};
+use am_store_runs::{Cut, Ordered, RecordSource, cut_source};
 use std::alloc::Global;
 
 /// Loads what was given, and tells how that ended.
@@ -117,7 +118,7 @@ fn load_none(alloc: Global, store: &mut Box<Store<BTree>>, tx: u64, bringing: Br
     }
 }
 
-// Each run by a step of its own: how many records were loaded, and the last reply.
+// Each run by a step of its own: how many records were brought in, and the last reply.
 fn load_in_turn<S: RecordSource>(
     alloc: Global,
     store: &mut Box<Store<BTree>>,
@@ -130,16 +131,36 @@ fn load_in_turn<S: RecordSource>(
 {
     let mut runs = runs;
     let mut records = 0;
-    loop {
-        let run = match runs.next(alloc) {
-            Ok(Some(run)) => Records::new(run.into_records()),
-            Ok(None) => return (records, Reply::Done),
-            Err(_) => return (records, Reply::Refused(Refusal::NoMemory)),
-        };
-        let len = run.as_slice().len() as u64;
-        match take_there(store, Step::Do(tx, bringing.op(run))) {
+    while let Some(run) = runs.run() {
+        let len = run.len() as u64;
+        match bring(alloc, store, tx, bringing, &run) {
             Reply::Done => records += len,
             refused => return (records, refused),
+        }
+        runs.pass();
+    }
+    (records, Reply::Done)
+}
+
+// Brings a run in. A load reads its records where they lie; a put has some of its own, which it parts.
+fn bring<S: RecordSource>(
+    alloc: Global,
+    store: &mut Box<Store<BTree>>,
+    tx: u64,
+    bringing: Bringing,
+    run: &Ordered<'_, S>,
+) -> Reply
+    requires { is_rising run.now ≡ true }
+    ensures { Brings store.old.value tx bringing run.now result store.new.value }
+{
+    match bringing {
+        Bringing::Load => load_there(store, tx, run),
+        Bringing::Put => {
+            let Ok(run) = run.to_run(alloc) else {
+                return Reply::Refused(Refusal::NoMemory);
+            };
+            let records = Records::new(run.into_records());
+            take_there(store, Step::Do(tx, bringing.op(records)))
         }
     }
 }

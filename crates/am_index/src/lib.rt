@@ -6,6 +6,7 @@ mod figures;
 mod hint;
 mod laws;
 mod part_index;
+mod record_source;
 
 pub use batch::Batch;
 pub use figures::Figures;
@@ -14,3 +15,4 @@ pub use laws::{
     content_follows, edits_follow, reads_follow, rows_follow, runs_follow, walks_follow,
 };
 pub use part_index::PartIndex;
+pub use record_source::{Listed, RecordSource};

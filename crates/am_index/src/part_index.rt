@@ -13,7 +13,7 @@ ghost use Rattle.am_index.specs.Rooms.{HasRoom, HaveRoom, KeepRoom};
 ghost use Rattle.am_record.specs.EntryOrder.{Place};
 
 use crate::hint::PLACES_AT_ONCE;
-use crate::{Batch, Hint};
+use crate::{Batch, Hint, RecordSource};
 use am_record::{Entry, Key, NoMemory, Range, Value};
 
 /// An index over partitions, seen as the list of its entries. They rise strictly by partition and
@@ -142,10 +142,10 @@ pub trait PartIndex {
     ///
     /// # Errors
     /// NoMemory, where memory was refused; the entries are as before.
-    fn append_run(&mut self, part: u32, records: &[(Key, Value)]) -> Result<(), NoMemory>
+    fn append_run<S: RecordSource>(&mut self, part: u32, records: &S) -> Result<(), NoMemory>
         requires above { AllByRecursion (λ e. e.part < part) (entries self.old) }
-        requires rising { IsRising (run_entries part records.now) }
-        ensures ok { OnOk result (entries self.new ≡ entries self.old ++ run_entries part records.now) }
+        requires rising { IsRising (run_entries part (S.records records.now)) }
+        ensures ok { OnOk result (entries self.new ≡ entries self.old ++ run_entries part (S.records records.now)) }
         ensures err { OnErr result (entries self.new ≡ entries self.old) }
         ensures rooms { KeepRoom (roomy self.old) (roomy self.new) (entries self.new) };
 

@@ -1,7 +1,6 @@
 -- Records of a run, put after a leaf's entries one after another.
-use Rattle.std.proofs.Common.{◌≡◌, ℕ, zero, suc, ◌+◌, ◌-◌, ◌≤◌, List, [], ◌∷◌, ◌++◌, length, take, drop, refl, sym, ap}
+use Rattle.std.proofs.Common.{◌≡◌, ℕ, zero, suc, ◌+◌, List, [], ◌∷◌, ◌++◌, take, drop, refl, sym, ap}
 use Rattle.std.proofs.Common.{◌∙◌, subst, append_assoc, arith}
-use Rattle.std.proofs.lemmas.List.{take_all, length-drop}
 use Rattle.am_record.specs.Plain.{Records}
 use Rattle.am_record.specs.declared.entry.Entry.{Entry}
 use Rattle.am_index.specs.Entries.{IsRising}
@@ -36,25 +35,13 @@ module _ (part : ℕ) where
     pub front_rises : IsRising so_far
     front_rises = rising_front so_far (run_entries part (drop i rs)) rest_rises
 
-    -- the records that are left
-    abbrev left : Records
-    left = take (length rs - i) (drop i rs)
+    -- the records that are left go after what stands
+    pub left_rise : {now : List Entry} → now ≡ so_far → IsRising (now ++ run_entries part (drop i rs))
+    left_rise is = subst (λ l. IsRising (l ++ run_entries part (drop i rs))) (sym is) rest_rises
 
-    left_is : left ≡ drop i rs
-    left_is = take_all (length rs - i) (drop i rs) (omega (arith, length-drop i rs))
-
-    -- they go after what stands
-    pub left_rise : {now : List Entry} → now ≡ so_far → IsRising (now ++ run_entries part left)
-    left_rise is = subst (λ l. IsRising (l ++ run_entries part left)) (sym is)
-        (subst (λ qs. IsRising (so_far ++ run_entries part qs)) (sym left_is) rest_rises)
-
-    pub further : (n : ℕ) {now after : List Entry} → now ≡ so_far → after ≡ now ++ run_entries part (take n left) →
-        after ≡ es ++ run_entries part (take (i + n) rs)
+    pub further : (n : ℕ) {now after : List Entry} → now ≡ so_far →
+        after ≡ now ++ run_entries part (take n (drop i rs)) → after ≡ es ++ run_entries part (take (i + n) rs)
     further n was is =
-        is ∙ ap (λ l. l ++ run_entries part (take n left)) was ∙ ap (λ qs. so_far ++ run_entries part (take n qs))
-        left_is
+        is ∙ ap (λ l. l ++ run_entries part (take n (drop i rs))) was
         ∙ append_assoc es (run_entries part (take i rs)) (run_entries part (take n (drop i rs))) ∙
         ap (λ l. es ++ l) (run_further rs i n (i + n) refl)
-
-    pub within : (n : ℕ) → i ≤ length rs → n ≤ length left → i + n ≤ length rs
-    within n le h = omega (arith, ap length left_is, length-drop i rs)

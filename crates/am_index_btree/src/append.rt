@@ -7,8 +7,9 @@ ghost use Rattle.am_index.specs.Runs.{run_entries};
 ghost use Rattle.am_index_btree.specs.Rooms.{KeepsRoom};
 
 use crate::node::Subtree;
-use am_index::Hint;
-use am_record::{Entry, Key, NoMemory, Value};
+use crate::portion::Portion;
+use am_index::{Hint, RecordSource};
+use am_record::{Entry, NoMemory};
 use std::alloc::Global;
 
 impl Subtree {
@@ -16,23 +17,25 @@ impl Subtree {
     /// a new leaf where the last one is full; as many of the next ones as its leaf has room for go in after it, by one
     /// walk and with no search; and so on. Where memory is refused, those that went in are taken out again, the newest
     /// first.
-    pub(crate) fn append(
+    pub(crate) fn append<S: RecordSource>(
         &mut self,
         alloc: Global,
         part: u32,
-        pairs: &[(Key, Value)],
+        records: &S,
     ) -> Result<(), NoMemory>
         requires above { AllByRecursion (λ e. e.part < part) self.old.entries }
-        requires rising { IsRising (run_entries part pairs.now) }
-        ensures ok { OnOk result (self.new.entries ≡ self.old.entries ++ run_entries part pairs.now) }
+        requires rising { IsRising (run_entries part (S.records records.now)) }
+        ensures ok { OnOk result (self.new.entries ≡ self.old.entries ++ run_entries part (S.records records.now)) }
         ensures err { OnErr result (self.new.entries ≡ self.old.entries) }
         ensures rooms { KeepsRoom self.old self.new }
     {
         // Read here, the node's invariant is known before it is changed.
         let _ = &self.node;
+        let count = records.len();
+        let mut portion = Portion::new();
         let mut added = 0;
-        'put: while added < pairs.len() {
-            let (key, value) = pairs[added];
+        'put: while added < count {
+            let (key, value) = records.get(added);
             let entry = Entry {
                 part,
                 key,
@@ -43,14 +46,14 @@ impl Subtree {
                 break;
             }
             added += 1;
-            added += self.fill_last(alloc, part, &pairs[added..]);
+            added += self.fill_last(alloc, part, records, added, &mut portion);
         }
-        if added == pairs.len() {
+        if added == count {
             return Ok(());
         }
         'take: while added > 0 {
             added -= 1;
-            self.remove(part, pairs[added].0, 1);
+            self.remove(part, records.key(added), 1);
         }
         self.collapse();
         Err(NoMemory)

@@ -5,7 +5,7 @@ ghost use Rattle.am_index.specs.Places.{only_of};
 
 use crate::node::Subtree;
 use crate::read::Start;
-use am_index::{Batch, Hint, PLACES_AT_ONCE, PartIndex};
+use am_index::{Batch, Hint, PLACES_AT_ONCE, PartIndex, RecordSource};
 use am_record::{Entry, Key, NoMemory, Range, Value};
 use std::alloc::Global;
 use std::marker::Model;
@@ -136,8 +136,8 @@ impl PartIndex for BTree {
         self.root.insert_among(None, more)
     }
 
-    fn append_run(&mut self, part: u32, pairs: &[(Key, Value)]) -> Result<(), NoMemory> {
-        self.root.append(self.alloc, part, pairs)
+    fn append_run<S: RecordSource>(&mut self, part: u32, records: &S) -> Result<(), NoMemory> {
+        self.root.append(self.alloc, part, records)
     }
 
     fn make_room(&mut self, part: u32, key: Key, bytes: usize, hint: Hint) -> Result<(), NoMemory> {

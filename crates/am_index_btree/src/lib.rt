@@ -26,6 +26,7 @@ mod insert;
 mod insert_among;
 mod make_room;
 mod node;
+mod portion;
 mod read;
 mod remove;
 mod room;

@@ -5,7 +5,7 @@ ghost use Rattle.am_index.specs.Entries.{IsRising};
 ghost use Rattle.am_index.specs.Places.{IsPlaceOf, IsGapFor, IsLowerBound, IsUpperBound, only_of};
 ghost use Rattle.am_index.specs.Runs.{run_entries};
 
-use am_index::{Batch, Hint, PLACES_AT_ONCE, PartIndex};
+use am_index::{Batch, Hint, PLACES_AT_ONCE, PartIndex, RecordSource};
 use am_record::{Entry, Key, NoMemory, Range, Value};
 use std::alloc::Global;
 use std::marker::Model;
@@ -209,7 +209,7 @@ impl PartIndex for ListIndex {
         0
     }
 
-    fn append_run(&mut self, part: u32, records: &[(Key, Value)]) -> Result<(), NoMemory> {
+    fn append_run<S: RecordSource>(&mut self, part: u32, records: &S) -> Result<(), NoMemory> {
         push_run(&mut self.items, part, records)
     }
 
@@ -249,16 +249,17 @@ impl PartIndex for ListIndex {
 }
 
 // Appends the records as entries of the partition, or nothing where memory was refused.
-fn push_run(items: &mut Vec<Entry>, part: u32, records: &[(Key, Value)]) -> Result<(), NoMemory>
-    ensures ok { OnOk result (items.new.items ≡ items.old.items ++ run_entries part records.now) }
+fn push_run<S: RecordSource>(items: &mut Vec<Entry>, part: u32, records: &S) -> Result<(), NoMemory>
+    ensures ok { OnOk result (items.new.items ≡ items.old.items ++ run_entries part (S.records records.now)) }
     ensures err { OnErr result (items.new.items ≡ items.old.items) }
 {
     let was = items.len();
-    for pair in records {
+    for at in 0..records.len() {
+        let (key, value) = records.get(at);
         let entry = Entry {
             part,
-            key: pair.0,
-            value: pair.1,
+            key,
+            value,
             is_ghost: false,
         };
         if items.push(entry).is_err() {

@@ -10,7 +10,7 @@ ghost use Rattle.am_index.specs.Content.{live_value};
 ghost use Rattle.am_index.specs.Runs.{run_entries};
 ghost use Rattle.am_index.specs.Rooms.{HasRoom, KeepRoom};
 
-use am_index::{Batch, Hint, PLACES_AT_ONCE, PartIndex};
+use am_index::{Batch, Hint, PLACES_AT_ONCE, PartIndex, RecordSource};
 use am_record::{Entry, Key, NoMemory, Range, Value};
 use std::marker::Model;
 
@@ -150,10 +150,10 @@ impl<I: PartIndex + Drop> PartIndex for Tight<I> {
         self.index.insert_among(more)
     }
 
-    fn append_run(&mut self, part: u32, records: &[(Key, Value)]) -> Result<(), NoMemory>
+    fn append_run<S: RecordSource>(&mut self, part: u32, records: &S) -> Result<(), NoMemory>
         requires above { AllByRecursion (λ e. e.part < part) self.old.entries }
-        requires rising { IsRising (run_entries part records.now) }
-        ensures ok { OnOk result (self.new.entries ≡ self.old.entries ++ run_entries part records.now) }
+        requires rising { IsRising (run_entries part (S.records records.now)) }
+        ensures ok { OnOk result (self.new.entries ≡ self.old.entries ++ run_entries part (S.records records.now)) }
         ensures err { OnErr result (self.new.entries ≡ self.old.entries) }
         ensures rooms { KeepRoom self.old.roomy self.new.roomy self.new.entries }
         ensures counted { self.new.inserts ≡ min (self.old.inserts + 1) (2 ^ 64 - 1) }

@@ -11,7 +11,12 @@ pub mod OneRunMore
 pub mod KeyLooks
 pub mod Lives
 mod MergedKnowledge
+pub mod ApartRuns
 pub mod Filters
+pub mod KnownKeys
+mod MeetingRuns
+mod PartLists
+mod RecordRanges
 pub mod RunNumbers
 mod Homes
 mod Changes

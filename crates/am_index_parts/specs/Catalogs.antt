@@ -3,6 +3,7 @@ use Rattle.std.specs.Prelude.{◌≡◌, ◌+◌, ◌<◌, ◌≤◌, ◌==◌, 
 use Rattle.std.specs.Prelude.{slice_index_or, IsSome, is_some, nat_lt, if◌then◌else◌}
 use Rattle.std.specs.List.{AllByRecursion, list_any}
 use Rattle.am_record.specs.OrderedKey.{OrderedKey}
+use Rattle.am_record.specs.Interval.{Interval, within}
 use Rattle.am_record.specs.Plain.{Records}
 use Rattle.am_record.specs.declared.entry.Entry.{Entry}
 use Rattle.am_index.specs.Entries.{find}
@@ -42,6 +43,10 @@ PartsRise (p ∷ ps) = AllByRecursion (λ q. p < q) ps × PartsRise ps
 
 abbrev pub is_one_of : List ℕ → ℕ → Bool
 is_one_of ps part = list_any (λ p. p == part) ps
+
+-- each entry with a key in the range stands in one of the partitions
+abbrev pub AllStandIn : List Entry → Interval → List ℕ → Type 0
+AllStandIn es range parts = AllByRecursion (λ (e : Entry). within range e.key ≡ true → is_one_of parts e.part ≡ true) es
 
 -- the final partition has so many entries, and the runs are just those in which entries stand
 pub record AreListed (es : List Entry) (in_final : ℕ) (runs : List OpenRun) : Type 0 where

@@ -1,15 +1,13 @@
 -- What filters say of the keys of runs.
-use Rattle.std.specs.Prelude.{◌≡◌, ◌⊎◌, ◌<◌, ◌≤◌, ◌&&◌, ℕ, Bool, List, [], ◌∷◌, true, not, Option, Some, None}
+use Rattle.std.specs.Prelude.{◌≡◌, ◌⊎◌, ◌<◌, ◌≤◌, ◌&&◌, ℕ, Bool, List, [], ◌∷◌, true, Option, Some, None}
 use Rattle.std.specs.Prelude.{if◌then◌else◌}
-use Rattle.std.specs.List.{AllByRecursion, list_any}
+use Rattle.std.specs.List.{list_any}
 use Rattle.am_record.specs.OrderedKey.{OrderedKey}
-use Rattle.am_record.specs.KeyNumber.{key_number}
 use Rattle.am_record.specs.declared.entry.Entry.{Entry}
 use Rattle.am_index.specs.Content.{IsLiveAt}
 use Rattle.am_index_filter.specs.Covers.{is_marked}
 use Rattle.am_index_parts.specs.declared.run_filters.RunFilter.{RunFilter}
 use Rattle.am_index_parts.specs.declared.run_filters.Generation.{Generation}
-use Rattle.am_index_parts.specs.declared.run_filters.RunFilters.{RunFilters}
 
 -- the key is live in the run
 pub record LivesInRun (es : List Entry) (key : OrderedKey) (part : ℕ) : Type 0 where
@@ -35,11 +33,6 @@ pub record IsNamedIn (live : Bool) (g : Generation) (run n : ℕ) : Type 0 where
 abbrev pub MayBeIn : Bool → List Generation → ℕ → ℕ → Type 0
 MayBeIn live [] run n = ⊥
 MayBeIn live (g ∷ gs) run n = IsNamedIn live g run n ⊎ MayBeIn live gs run n
-
--- so it is of each entry of a run
-abbrev pub AreFiltered : List Entry → RunFilters → Type 0
-AreFiltered es f = AllByRecursion (λ (e : Entry). 0 < e.part →
-    MayBeIn (not e.is_ghost) f.generations.items e.part (key_number f.hash e.key)) es
 
 -- by one of the generations, the key of one of the numbers may be live in a run
 abbrev pub may_have_any : List Generation → List ℕ → Bool

@@ -116,6 +116,26 @@ impl Catalog {
         search(&self.runs, part).is_ok()
     }
 
+    /// How many entries are left in the run.
+    pub(crate) fn left_in(&self, part: u32) -> u64
+        requires { PartsRise (parts_of self.now.runs.items) }
+    {
+        match search(&self.runs, part) {
+            Ok(at) => self.runs[at].left,
+            Err(_) => 0,
+        }
+    }
+
+    /// How many entries of the run are live.
+    pub(crate) fn live_in(&self, part: u32) -> u64
+        requires { PartsRise (parts_of self.now.runs.items) }
+    {
+        match search(&self.runs, part) {
+            Ok(at) => self.runs[at].live,
+            Err(_) => 0,
+        }
+    }
+
     /// Whether the run has live entries.
     pub(crate) fn has_live(&self, part: u32) -> bool
         requires { PartsRise (parts_of self.now.runs.items) }

@@ -10,13 +10,16 @@
 //!   right, and never needed.
 #![tactic(auto)]
 
+mod apart_runs;
 mod catalog;
 mod fault;
 mod key_look;
 mod merged_ranges;
 mod parts;
+mod parts_in;
 mod run_entry;
 mod run_filters;
+mod run_keys;
 mod run_numbers;
 mod way_home;
 

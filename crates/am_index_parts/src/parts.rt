@@ -1,17 +1,19 @@
 //! The partitions of an index, and the changes that keep each key live in at most one of them.
 
 ghost use Rattle.std.specs.Prelude.{◌≡◌, ◌⊎◌, ◌+◌, ◌<◌, ◌≤◌, ◌++◌, ℕ, [], length, take, drop, reverse, true, false};
-ghost use Rattle.std.specs.Prelude.{Some, None, IsSome, is_some, IfSome, IfNone, Err, OnOk, OnErr, vec_capacity};
+ghost use Rattle.std.specs.Prelude.{Some, None, IsSome, is_some, IfSome, IfNone, Err, OnOk, OnErr, IfOk, vec_capacity};
 ghost use Rattle.std.specs.List.{AllByRecursion};
 ghost use Rattle.std.specs.FinMap.{get};
+ghost use Rattle.am_record.specs.Interval.{within};
 ghost use Rattle.am_record.specs.Limits.{max_value_bytes, last_run};
+ghost use Rattle.am_record.specs.OrderedKey.{OrderedKey};
 ghost use Rattle.am_record.specs.Plain.{insert_all, is_rising};
 ghost use Rattle.am_index.specs.Entries.{find, next_any, next_ghost, next_from, after, all_from, all_after};
 ghost use Rattle.am_index.specs.Entries.{entry_at, insert_entry, set_entry, remove_entry};
 ghost use Rattle.am_index.specs.Rooms.{HasRoom, HaveRoom, KeepRoom};
 ghost use Rattle.am_index.specs.Runs.{run_entries};
 ghost use Rattle.am_index.specs.Content.{content, rows_in, live_value, HasContent};
-ghost use Rattle.am_index_parts.specs.Catalogs.{IsCatalog, runs_in};
+ghost use Rattle.am_index_parts.specs.Catalogs.{IsCatalog, runs_in, AllStandIn, PartsRise};
 ghost use Rattle.am_index_parts.specs.MergedRanges.{HasNoneBefore};
 ghost use Rattle.am_index_parts.specs.Partitions.{vacancy_over, NoneLiveIn, AreAllAbsent};
 
@@ -19,10 +21,11 @@ use crate::catalog::Catalog;
 use crate::fault::RunFault;
 use crate::key_look::{live_at, live_in_runs};
 use crate::merged_ranges::MergedRanges;
-use crate::run_entry::live_in_none;
-use crate::run_filters::RunFilters;
+use crate::parts_in::parts_in;
+use crate::run_entry::enter_keys;
+use crate::run_keys::RunKeys;
 use crate::way_home::{forget_all, remove_all, settle_all};
-use am_index::{Batch, Figures, Hint, PLACES_AT_ONCE, PartIndex};
+use am_index::{Batch, Figures, Hint, PLACES_AT_ONCE, PartIndex, RecordSource};
 use am_record::{Entry, HashKey, Key, NoMemory, Range, Value};
 use std::alloc::Global;
 use std::marker::Model;
@@ -44,7 +47,7 @@ pub enum Vacancy {
 pub struct Parts<I: PartIndex + Drop> {
     index: I,
     catalog: Catalog,
-    filters: RunFilters,
+    keys: RunKeys,
     merged: MergedRanges,
     runs: u32,
 }
@@ -55,13 +58,13 @@ impl<I: PartIndex + Drop> Drop for Parts<I> {
         let Parts {
             index,
             catalog,
-            filters,
+            keys,
             merged,
             runs: _,
         } = self;
         drop(index);
         drop(catalog);
-        drop(filters);
+        drop(keys);
         drop(merged);
     }
 }
@@ -72,7 +75,7 @@ impl<I: PartIndex + Drop> Model for Parts<I> {
     ghost use Rattle.am_index_parts.specs.Catalogs.{IsCatalog};
     ghost use Rattle.am_index_parts.specs.MergedRanges.{AreMerged};
     ghost use Rattle.am_index_parts.specs.Partitions.{Partitions, partitions_code, AreWellFormed};
-    ghost use Rattle.am_index_parts.specs.RunFilters.{AreFiltered};
+    ghost use Rattle.am_index_parts.specs.RunKeys.{AreKnown};
     ghost use Rattle.am_record.specs.Limits.{last_run};
 
     ghost Value = { Partitions };
@@ -82,7 +85,7 @@ impl<I: PartIndex + Drop> Model for Parts<I> {
     ghost view = { λ p. record { entries = I.entries p.index; runs = p.runs; roomy = I.roomy p.index } };
 
     ghost invariant = { λ p. AreWellFormed (I.entries p.index) × (p.runs ≤ last_run) ×
-        IsCatalog (I.entries p.index) p.catalog × AreFiltered (I.entries p.index) p.filters ×
+        IsCatalog (I.entries p.index) p.catalog × AreKnown (I.entries p.index) p.keys ×
         AreMerged (I.entries p.index) p.runs p.merged.list.items × HaveRoom (I.entries p.index) (I.roomy p.index) };
 }
 
@@ -105,7 +108,7 @@ impl<I: PartIndex + Drop> Parts<I> {
         Parts {
             index,
             catalog: Catalog::new(alloc),
-            filters: RunFilters::new(alloc, hash),
+            keys: RunKeys::new(alloc, hash),
             merged: MergedRanges::new(alloc),
             runs: 0,
         }
@@ -158,7 +161,7 @@ impl<I: PartIndex + Drop> Parts<I> {
     pub fn hints(&self, records: &[(Key, Value)]) -> [Hint; PLACES_AT_ONCE] {
         let mut places = [(0, Key::least()); PLACES_AT_ONCE];
         for (place, pair) in places.iter_mut().zip(records) {
-            *place = (self.filters.newest_run(pair.0).unwrap_or(0), pair.0);
+            *place = (self.keys.first_run(pair.0).unwrap_or(0), pair.0);
         }
         let places = &places[..records.len().min(PLACES_AT_ONCE)];
         if !self.catalog.has_final() && places.iter().all(|place| place.0 == 0) {
@@ -326,7 +329,7 @@ impl<I: PartIndex + Drop> Parts<I> {
         ensures absent { IfNone result (LivesInNoRun self.now.entries key) }
         ensures sound { AreWellFormed self.now.entries }
     {
-        live_in_runs(&self.index, &self.filters, key, Hint::none()).0
+        live_in_runs(&self.index, &self.keys, key, Hint::none()).0
     }
 
     /// What a new record of the key meets, and a hint for its live entry, or for its place in the final partition. The
@@ -336,7 +339,7 @@ impl<I: PartIndex + Drop> Parts<I> {
         ensures sound { AreWellFormed self.now.entries }
         ensures room { HaveRoom self.now.entries self.now.roomy }
     {
-        let (found, next) = live_in_runs(&self.index, &self.filters, key, hint);
+        let (found, next) = live_in_runs(&self.index, &self.keys, key, hint);
         match found {
             Some(entry) => (Vacancy::Taken(entry), next),
             None => self.vacancy_in_final(key, next),
@@ -385,7 +388,7 @@ impl<I: PartIndex + Drop> Parts<I> {
     {
         // Read here, the number is known to fit its type.
         prove!(entry.part <= u32::MAX);
-        self.filters.make_room_for(entry.part, entry.key)?;
+        self.keys.make_room_for(entry.part, entry.key)?;
         self.catalog.add(entry.part, entry.is_ghost)?;
         self.merged.add(entry.part);
         insert_or_forget(&mut self.index, &mut self.catalog, entry, hint)
@@ -429,7 +432,7 @@ impl<I: PartIndex + Drop> Parts<I> {
     {
         let was_live = self.index.set(part, key, value, is_ghost, hint);
         self.catalog.mark(part, was_live, is_ghost);
-        self.filters.set(part, was_live, is_ghost, &self.catalog);
+        self.keys.set(part, was_live, is_ghost, &self.catalog);
     }
 
     /// Takes an entry out. The caller sees to it that it is there. Takes no memory.
@@ -465,7 +468,7 @@ impl<I: PartIndex + Drop> Parts<I> {
         let gone = &entries[..count];
         remove_all(&mut self.index, gone);
         forget_all(&mut self.catalog, gone);
-        self.filters.let_go(&self.catalog);
+        self.keys.let_go(&self.catalog);
         count
     }
 
@@ -476,6 +479,38 @@ impl<I: PartIndex + Drop> Parts<I> {
         ensures sound { AreWellFormed self.now.entries }
     {
         self.merged.first_run(&range)
+    }
+
+    /// The partitions in which something may stand in the range, rising, as far as that is known without a look into
+    /// the index.
+    ///
+    /// # Errors
+    /// NoMemory, where memory was refused.
+    pub fn parts_in(&self, alloc: Global, range: Range) -> Result<Vec<u32>, NoMemory>
+        ensures every { IfOk result (λ parts. AllStandIn self.now.entries range parts.items) }
+        ensures rising { IfOk result (λ parts. PartsRise parts.items) }
+        ensures sound { AreWellFormed self.now.entries }
+    {
+        let first_run = self.merged.first_run(&range);
+        parts_in(alloc, &self.catalog, &self.keys, first_run, range)
+    }
+
+    /// A range of that one's keys, from the same lowest key, in which runs that stand apart have `max` live entries or
+    /// more, and which is as short as it can be; the range itself, where they don't have so many. The index isn't
+    /// searched.
+    pub fn first_piece(&self, range: Range, max: u64) -> Range
+        ensures within { (key : OrderedKey) → within result key ≡ true → within range key ≡ true }
+        ensures begins { result.lo ≡ range.lo }
+    {
+        self.keys.apart().first_piece(&self.catalog, range, max)
+    }
+
+    /// The same up to the same highest key.
+    pub fn last_piece(&self, range: Range, max: u64) -> Range
+        ensures within { (key : OrderedKey) → within result key ≡ true → within range key ≡ true }
+        ensures ends { result.hi ≡ range.hi }
+    {
+        self.keys.apart().last_piece(&self.catalog, range, max)
     }
 
     /// Puts a range down as merged in all runs before that one. The caller sees to it that none of these that was made
@@ -501,36 +536,34 @@ impl<I: PartIndex + Drop> Parts<I> {
 
     /// Makes the records the next run, all of them live in it, and counts it. The caller sees to it that fewer than
     /// 4,294,967,294 runs were made, that no entry stands above them, that there is a record, that the records
-    /// rise, and that none of their keys is live in the final partition. A key costs a look in a filter of each
-    /// generation of runs, and where one of these may have it, in those of its runs, and a descent in each that may.
+    /// rise, and that none of their keys is live in the final partition. Where no run has a key between the first and
+    /// the last of them, no key is looked for. Else a key costs a look in a filter of each generation of runs, and
+    /// where one of these may have it, in those of its runs, and a descent in each that may. Each record is read from
+    /// the source, and copied to where it stays.
     ///
     /// # Errors
     /// Taken, where one of the keys is live in a run; NoMemory, where memory was refused. Entries and runs are as
     /// before.
-    pub fn append_run(&mut self, records: &[(Key, Value)]) -> Result<(), RunFault>
+    pub fn append_run<S: RecordSource>(&mut self, records: &S) -> Result<(), RunFault>
         requires room { self.old.runs < last_run }
         requires above { AllByRecursion (λ e. e.part ≤ self.old.runs) self.old.entries }
-        requires rising { is_rising records.now ≡ true }
-        requires in_final { NoneLiveIn self.old.entries 0 records.now }
+        requires rising { is_rising (S.records records.now) ≡ true }
+        requires in_final { NoneLiveIn self.old.entries 0 (S.records records.now) }
         ensures entries { OnOk result (self.new.entries ≡ self.old.entries ++
-            run_entries (self.old.runs + 1) records.now) }
+            run_entries (self.old.runs + 1) (S.records records.now)) }
         ensures content { OnOk result (HasContent self.new.entries
-            (insert_all records.now (content self.old.entries))) }
-        ensures dead { OnOk result (AreAllAbsent self.old.entries records.now) }
+            (insert_all (S.records records.now) (content self.old.entries))) }
+        ensures dead { OnOk result (AreAllAbsent self.old.entries (S.records records.now)) }
         ensures runs { OnOk result (self.new.runs ≡ self.old.runs + 1) }
-        ensures taken { result ≡ Err RunFault.Taken → ¬ AreAllAbsent self.old.entries records.now }
+        ensures taken { result ≡ Err RunFault.Taken → ¬ AreAllAbsent self.old.entries (S.records records.now) }
         ensures err { OnErr result ((self.new.entries ≡ self.old.entries) × (self.new.runs ≡ self.old.runs)) }
         ensures rooms { KeepRoom self.old.roomy self.new.roomy self.new.entries }
     {
         let part = self.runs + 1;
         self.merged.reserve()?;
         self.catalog.make_room(records.len())?;
-        self.filters.let_go(&self.catalog);
-        let numbers = self.filters.numbers(records)?;
-        if !live_in_none(&self.index, &self.filters, records, &numbers) {
-            return Err(RunFault::Taken);
-        }
-        self.filters.enter_run(part, &numbers)?;
+        self.keys.let_go(&self.catalog);
+        enter_keys(&self.index, &self.catalog, &mut self.keys, part, records)?;
         self.index.append_run(part, records)?;
         self.catalog.push(part, records.len());
         self.runs = part;

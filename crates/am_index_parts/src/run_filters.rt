@@ -10,13 +10,14 @@ ghost use Rattle.am_record.specs.declared.entry.Entry.{Entry};
 ghost use Rattle.am_index.specs.Content.{live_value};
 ghost use Rattle.am_index.specs.Entries.{find, set_entry};
 ghost use Rattle.am_index_filter.specs.Covers.{is_marked};
-ghost use Rattle.am_index_parts.specs.Catalogs.{IsCatalog, PartsRise, parts_of, is_one_of};
-ghost use Rattle.am_index_parts.specs.RunFilters.{IsNamedIn, MayBeIn, AreFiltered, may_have_any};
+ghost use Rattle.am_index_parts.specs.Catalogs.{PartsRise, parts_of, is_one_of};
+ghost use Rattle.am_index_parts.specs.RunFilters.{IsNamedIn, MayBeIn, may_have_any};
 ghost use Rattle.am_index_parts.specs.RunFilters.{newest_of, newest_run};
 
 use crate::catalog::Catalog;
+use am_index::RecordSource;
 use am_index_filter::Filter;
-use am_record::{HashKey, Key, NoMemory, Value};
+use am_record::{HashKey, Key, NoMemory};
 use std::alloc::Global;
 
 /// A generation has no more runs.
@@ -187,6 +188,18 @@ impl Generation {
         }
     }
 
+    // Appends its runs.
+    fn add_runs(&self, parts: &mut Vec<u32>) -> Result<(), NoMemory>
+        ensures added { OnOk result ((live : Bool) (part n : ℕ) → IsNamedIn live self.now part n →
+            is_one_of parts.new.items part ≡ true) }
+        ensures kept { (part : ℕ) → is_one_of parts.old.items part ≡ true → is_one_of parts.new.items part ≡ true }
+    {
+        for run in &self.runs {
+            parts.push(run.part)?;
+        }
+        Ok(())
+    }
+
     // Lets filters go of runs that have no entries.
     fn let_go(&mut self, catalog: &Catalog)
         requires { PartsRise (parts_of catalog.now.runs.items) }
@@ -211,9 +224,7 @@ pub(crate) struct RunFilters {
 
 impl RunFilters {
     /// Those of no run. It takes no memory.
-    pub(crate) fn new(alloc: Global, hash: HashKey) -> RunFilters
-        ensures { AreFiltered [] result }
-    {
+    pub(crate) fn new(alloc: Global, hash: HashKey) -> RunFilters {
         RunFilters {
             hash,
             generations: Vec::new(alloc),
@@ -229,6 +240,18 @@ impl RunFilters {
         &self.generations
     }
 
+    /// By what the numbers are made.
+    pub(crate) fn hash(&self) -> HashKey
+        ensures { result ≡ self.now.hash }
+    {
+        self.hash
+    }
+
+    /// Where their memory comes from.
+    pub(crate) fn alloc(&self) -> Global {
+        self.alloc
+    }
+
     /// The number of the key.
     pub(crate) fn number(&self, key: Key) -> u64
         ensures { result ≡ key_number self.now.hash key }
@@ -240,13 +263,13 @@ impl RunFilters {
     ///
     /// # Errors
     /// NoMemory, where memory was refused.
-    pub(crate) fn numbers(&self, records: &[(Key, Value)]) -> Result<Vec<u64>, NoMemory>
-        ensures { IfOk result (λ numbers. numbers.items ≡ numbers_of self.now.hash records.now) }
+    pub(crate) fn numbers<S: RecordSource>(&self, records: &S) -> Result<Vec<u64>, NoMemory>
+        ensures { IfOk result (λ numbers. numbers.items ≡ numbers_of self.now.hash (S.records records.now)) }
     {
         let mut numbers = Vec::new(self.alloc);
         numbers.reserve(records.len())?;
-        for pair in records {
-            numbers.push(pair.0.number(self.hash))?;
+        for at in 0..records.len() {
+            numbers.push(records.key(at).number(self.hash))?;
         }
         Ok(numbers)
     }
@@ -286,24 +309,6 @@ impl RunFilters {
         Ok(())
     }
 
-    /// Gets room for an entry of the partition, by entering its key. The final one needs none.
-    ///
-    /// # Errors
-    /// NoMemory, where memory was refused.
-    pub(crate) fn make_room_for(&mut self, part: u32, key: Key) -> Result<(), NoMemory>
-        ensures entered { OnOk result (0 < part →
-            MayBeIn true self.new.generations.items part (key_number self.new.hash key)) }
-        ensures kept { (live : Bool) (run n : ℕ) → MayBeIn live self.old.generations.items run n →
-            MayBeIn live self.new.generations.items run n }
-        ensures hash { self.new.hash ≡ self.old.hash }
-    {
-        if part == 0 {
-            return Ok(());
-        }
-        let number = self.number(key);
-        self.enter_run(part, &[number])
-    }
-
     // Begins a generation, where a run of so many keys belongs to the next one.
     fn make_room(&mut self, keys: usize) -> Result<(), NoMemory>
         ensures some { OnOk result (0 < length self.new.generations.items) }
@@ -331,30 +336,8 @@ impl RunFilters {
         Some(more.max(keys).max(FEWEST_KEYS))
     }
 
-    /// Notes that an entry is written over, which was live or a ghost. The catalog counts the entries as they are then.
-    /// Takes no memory.
-    pub(crate) fn set(&mut self, part: u32, was_live: bool, is_ghost: bool, catalog: &Catalog)
-        requires { (es : List Entry) × IsCatalog es catalog.now }
-        ensures { (es : List Entry) (key : OrderedKey) (value : List ℕ) → IsSome (find es part key) →
-            was_live ≡ is_some (live_value (find es part key)) →
-            IsCatalog (set_entry es part key value is_ghost) catalog.now → AreFiltered es self.old →
-            AreFiltered (set_entry es part key value is_ghost) self.new }
-    {
-        if part == 0 {
-            return;
-        }
-        if was_live != is_ghost {
-            return;
-        }
-        if !is_ghost {
-            self.wake(part);
-        } else if !catalog.has_live(part) {
-            self.sleep(part);
-        }
-    }
-
-    // Puts the run to sleep, which has no live entry.
-    fn sleep(&mut self, part: u32)
+    /// Puts the run to sleep, which has no live entry.
+    pub(crate) fn sleep(&mut self, part: u32)
         ensures kept { (live : Bool) (run n : ℕ) → (live ≡ true → run ≢ part) →
             MayBeIn live self.old.generations.items run n → MayBeIn live self.new.generations.items run n }
         ensures hash { self.new.hash ≡ self.old.hash }
@@ -366,8 +349,8 @@ impl RunFilters {
         }
     }
 
-    // Wakes the run.
-    fn wake(&mut self, part: u32)
+    /// Wakes the run.
+    pub(crate) fn wake(&mut self, part: u32)
         ensures woken { (n : ℕ) → MayBeIn false self.new.generations.items part n →
             MayBeIn true self.new.generations.items part n }
         ensures kept { (live : Bool) (run n : ℕ) → MayBeIn live self.old.generations.items run n →
@@ -381,11 +364,13 @@ impl RunFilters {
 
     /// Lets filters go of runs that have no entries, where they are many. Takes no memory.
     pub(crate) fn let_go(&mut self, catalog: &Catalog)
-        requires { (es : List Entry) × IsCatalog es catalog.now }
-        ensures { (es : List Entry) → IsCatalog es catalog.now → AreFiltered es self.old → AreFiltered es self.new }
+        requires { PartsRise (parts_of catalog.now.runs.items) }
+        ensures kept { (live : Bool) (run n : ℕ) → is_one_of (parts_of catalog.now.runs.items) run ≡ true →
+            MayBeIn live self.old.generations.items run n → MayBeIn live self.new.generations.items run n }
+        ensures hash { self.new.hash ≡ self.old.hash }
     {
         let open = catalog.runs().len();
-        if self.runs <= open.saturating_mul(2).saturating_add(FEWEST_GONE) {
+        if open > 0 && self.runs <= open.saturating_mul(2).saturating_add(FEWEST_GONE) {
             return;
         }
         for at in 0..self.generations.len() {
@@ -394,6 +379,21 @@ impl RunFilters {
         self.generations
             .retain(|generation| !generation.runs.is_empty());
         self.runs = open;
+    }
+
+    /// Appends the runs of all generations.
+    ///
+    /// # Errors
+    /// NoMemory, where memory was refused. Some may have been appended.
+    pub(crate) fn add_runs(&self, parts: &mut Vec<u32>) -> Result<(), NoMemory>
+        ensures added { OnOk result ((live : Bool) (part n : ℕ) → MayBeIn live self.now.generations.items part n →
+            is_one_of parts.new.items part ≡ true) }
+        ensures kept { (part : ℕ) → is_one_of parts.old.items part ≡ true → is_one_of parts.new.items part ≡ true }
+    {
+        for generation in &self.generations {
+            generation.add_runs(parts)?;
+        }
+        Ok(())
     }
 
     /// The newest run in which the key may be live.

@@ -87,7 +87,7 @@ fn settle_first<I: PartIndex + Drop>(
 }
 
 // Lets the first of the entries stand in the final partition too, as many of those with homes as go between others
-// there: by one walk, and without memory. Says how many.
+// there: by one walk, and without memory. KnowsOf how many.
 fn settle_between<I: PartIndex + Drop>(
     index: &mut I,
     catalog: &mut Catalog,

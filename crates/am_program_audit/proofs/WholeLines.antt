@@ -1,8 +1,9 @@
 -- Where the last LF of a text stands.
 use Rattle.std.proofs.Common.{◌≡◌, ℕ, ◌<◌, List, [], ◌∷◌, zero, suc, length, get_or, take, drop, ap, ◌∙◌, sym, refl}
 use Rattle.std.proofs.Common.{true, false, Bool, ◌==◌, cond, arith}
-use Rattle.am_trace_text.specs.Lines.{header}
+use Rattle.am_trace_text.specs.Lines.{header_line}
 use Rattle.am_trace_text.specs.declared.version.Version.TheVariants.{Two}
+use Rattle.am_trace_text.specs.declared.header.Header.TheVariants.{Profile}
 use Rattle.am_program_audit.specs.Answers.{holds_lf, whole_lines, whole_run}
 
 -- of a text that has no LF from a place on, one byte more
@@ -40,8 +41,9 @@ whole_at (b ∷ text) (suc i) less is none =
 pub run_at : (text : List ℕ) (i : ℕ) → i < length text → (get_or text i 0 == 10) ≡ true →
     holds_lf (drop (suc i) text) ≡ false → take (suc i) text ≡ whole_run text
 run_at text i less is none = sym (
-    ap (λ t. cond t (whole_lines text) (header Two)) (has_at text i less is) ∙ whole_at text i less is none)
+    ap (λ t. cond t (whole_lines text) (header_line (Profile Two))) (has_at text i less is) ∙
+    whole_at text i less is none)
 
 -- there is none
-pub run_without : (text : List ℕ) → holds_lf text ≡ false → header Two ≡ whole_run text
-run_without text none = sym (ap (λ t. cond t (whole_lines text) (header Two)) none)
+pub run_without : (text : List ℕ) → holds_lf text ≡ false → header_line (Profile Two) ≡ whole_run text
+run_without text none = sym (ap (λ t. cond t (whole_lines text) (header_line (Profile Two))) none)

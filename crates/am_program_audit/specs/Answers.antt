@@ -1,8 +1,9 @@
 -- What is answered to the words.
 use Rattle.std.specs.Prelude.{ℕ, List, [], ◌∷◌, Bool, true, false, ◌==◌, cond, Option}
 use Rattle.am_program_start.specs.declared.choice.Audited.{Audited}
-use Rattle.am_trace_text.specs.Lines.{header}
+use Rattle.am_trace_text.specs.Lines.{header_line}
 use Rattle.am_trace_text.specs.declared.version.Version.TheVariants.{Two}
+use Rattle.am_trace_text.specs.declared.header.Header.TheVariants.{Profile}
 use Rattle.am_program_audit.specs.Judgements.{SaysJudgement, IsBegun, PrintsRecords, HasBegunRecords}
 
 -- whether an LF stands in the text
@@ -17,7 +18,7 @@ whole_lines (b ∷ text) = cond (holds_lf (b ∷ text)) (b ∷ whole_lines text)
 
 -- the text of a run that isn't ended: its whole lines; where none has come yet, the text of a run without steps
 abbrev pub whole_run : List ℕ → List ℕ
-whole_run text = cond (holds_lf text) (whole_lines text) (header Two)
+whole_run text = cond (holds_lf text) (whole_lines text) (header_line (Profile Two))
 
 -- what is judged of the text
 abbrev pub text_judged : Audited → List ℕ → List ℕ

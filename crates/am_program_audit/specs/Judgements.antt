@@ -6,7 +6,7 @@ use Rattle.am_record.specs.Records.{Records}
 use Rattle.am_law_serial.specs.Trace.{Trace, effects, committers, committed}
 use Rattle.am_line_sink.specs.SinkWrites.{Gave, GaveBeginning}
 use Rattle.am_trace_text.specs.Lines.{IsTextOf, IsBadLine}
-use Rattle.am_trace_text.specs.Versions.{most_runs_of}
+use Rattle.am_trace_text.specs.Headers.{most_runs_of}
 use Rattle.am_law_serial.specs.Legal.{IsLegal}
 use Rattle.am_audit.specs.Faults.{IsFirstFault}
 use Rattle.am_audit.specs.AuditStates.{HasJudged}
@@ -17,20 +17,20 @@ use Rattle.am_program_audit.specs.declared.judgement.Judgement.{Judgement}
 use Rattle.am_program_audit.specs.declared.judgement.Judgement.TheVariants.{Legal, Wrong, Bad, NoFile, NoMemory}
 
 -- Of a legal trace its number of commits, of another its first fault, of what is no trace its first bad line; want of
--- memory says nothing. The text's version says how many runs the store makes at most.
+-- memory says nothing. The text's first line says how many runs the store makes at most.
 abbrev pub IsTrueOf : List ℕ → Judgement → Type 0
 IsTrueOf text (Legal commits) = (trace : Trace) × (it : IsTextOf text trace) ×
-    IsLegal (most_runs_of it.version) trace ×
+    IsLegal (most_runs_of it.header) trace ×
     (commits ≡ length (committers (effects trace)))
 IsTrueOf text (Wrong line kind) = (trace : Trace) × (it : IsTextOf text trace) ×
-    IsFirstFault (most_runs_of it.version) trace line kind
+    IsFirstFault (most_runs_of it.header) trace line kind
 IsTrueOf text (Bad line) = IsBadLine text line
 IsTrueOf text NoFile = ⊥
 IsTrueOf text NoMemory = Unit {0}
 
 -- the text is that of a trace, all events of which were judged
 abbrev pub HasText : List ℕ → Audit → Type 0
-HasText text audit = (trace : Trace) × (it : IsTextOf text trace) × HasJudged (most_runs_of it.version) audit trace
+HasText text audit = (trace : Trace) × (it : IsTextOf text trace) × HasJudged (most_runs_of it.header) audit trace
 
 abbrev pub kind_word : FaultKind → List ℕ
 kind_word Form = codes " FORM\n"
@@ -65,7 +65,7 @@ records_text (r ∷ rs) = record_line r ++ records_text rs
 pub record HasRecords (text lines : List ℕ) : Type 0 where
   pub trace : Trace
   pub is_text : IsTextOf text trace
-  pub legal : IsLegal (most_runs_of is_text.version) trace
+  pub legal : IsLegal (most_runs_of is_text.header) trace
   pub are : lines ≡ records_text (entries (committed (effects trace)))
 
 -- a true judgement that isn't Legal

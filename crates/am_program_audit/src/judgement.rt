@@ -5,7 +5,7 @@ ghost use Rattle.am_line_sink.specs.SinkWrites.{Wrote};
 ghost use Rattle.std.specs.Prelude.{◌≢◌, ℕ, List, IfErr};
 ghost use Rattle.am_law_serial.specs.Trace.{Trace};
 ghost use Rattle.am_trace_text.specs.Lines.{IsTextOf};
-ghost use Rattle.am_trace_text.specs.Versions.{most_runs_of};
+ghost use Rattle.am_trace_text.specs.Headers.{most_runs_of};
 ghost use Rattle.am_audit.specs.Faults.{IsTrueFault};
 ghost use Rattle.am_program_audit.specs.Judgements.{IsTrueOf, SaysJudgement, IsBegun, judgement_line, judgement_status};
 ghost use Rattle.am_program_audit.specs.Judgements.{HasText};
@@ -48,7 +48,7 @@ fn judge_text(alloc: Global, text: &[u8]) -> Judgement
 /// What is to be said of a trace with the fault.
 pub(crate) fn judgement_of(fault: Fault) -> Judgement
     ensures told { (text : List ℕ) (trace : Trace) (it : IsTextOf text trace) →
-        IsTrueFault (most_runs_of it.version) trace fault → IsTrueOf text result }
+        IsTrueFault (most_runs_of it.header) trace fault → IsTrueOf text result }
     ensures others { judgement_status result ≢ 0 }
 {
     match fault {
@@ -66,16 +66,16 @@ pub(crate) fn audit_text(alloc: Global, text: &[u8]) -> Result<Audit, Judgement>
     ensures told { IfErr result (IsTrueOf text.now) }
     ensures others { IfErr result (λ judgement. judgement_status judgement ≢ 0) }
 {
-    let Some((version, mut rest)) = read_header(text) else {
+    let Some((header, mut rest)) = read_header(text) else {
         return Err(Judgement::Bad(1));
     };
-    let Ok(mut audit) = Audit::new(alloc, version.most_runs()) else {
+    let Ok(mut audit) = Audit::new(alloc, header.most_runs()) else {
         return Err(Judgement::NoMemory);
     };
     let _bytes = text.len();
     let mut line = 2;
     'lines: while !rest.is_empty() {
-        match read_line(alloc, version, rest) {
+        match read_line(alloc, header.version(), rest) {
             Ok(read) => {
                 let ((step, reply), further) = read;
                 audit.judge(alloc, step, reply);

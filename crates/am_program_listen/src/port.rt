@@ -2,7 +2,9 @@
 //!
 //! Each part has a frame of its own, beside that of the words, so that none is large.
 
-ghost use Rattle.std.specs.Prelude.{◌≡◌, ◌≤◌, if◌then◌else◌};
+ghost use Rattle.std.specs.Prelude.{◌≡◌, ◌≢◌, ◌≤◌, if◌then◌else◌};
+ghost use Rattle.am_trace_text.specs.Headers.{line_version};
+ghost use Rattle.am_trace_text.specs.declared.version.Version.TheVariants.{One};
 
 use crate::ending::{remove_socket, tell};
 use crate::fault::ListenFault;
@@ -11,10 +13,11 @@ use crate::stop_word::await_stop;
 use crate::trace::{OpenedTrace, Writer, begin_trace, forget_trace, store_trace};
 use am_program_options::{Listening, Place};
 use am_program_start::draw_hash_key;
-use am_serve::{BindFault, Listener, bind, bind_socket, version_of};
+use am_serve::{BindFault, Listener, bind, bind_socket, header_of};
 use am_serve_connections::{Lifetime, Limits};
 use am_serve_drain::{DrainSetup, Watcher};
 use am_trace_file::{Outbox, TraceFile};
+use am_trace_text::Header;
 use am_trace_writer::{LetGo, PieceTaker};
 use std::fs::File;
 use std::io;
@@ -53,7 +56,7 @@ pub(crate) fn make_ready<
         Ok(opened) => opened,
         Err(fault) => return Err(tell(rt, listening, &fault)),
     };
-    let writer = match begin_trace(rt, listening, outbox) {
+    let writer = match begin_trace(rt, listening, outbox, begun_header(listening)) {
         Ok(writer) => writer,
         // The file said what fails.
         Err(fault) if outbox.is_failed() => return Err(Ok(ExitCode::from(fault.status()))),
@@ -217,6 +220,13 @@ fn lifetime_of(listening: &Listening<'_>) -> Lifetime
     }
 }
 
+// The first line with which the trace is begun: nobody knows yet whether version 2 can write what comes.
+fn begun_header(listening: &Listening<'_>) -> Header
+    ensures { line_version result ≢ One }
+{
+    header_of(lifetime_of(listening), true)
+}
+
 // So many seconds; none where there are 0.
 fn seconds(count: u64) -> Option<Duration> {
     if count == 0 {
@@ -281,11 +291,11 @@ pub(crate) fn close<R: Files<File = File> + Print + Eprint>(
             return tell(rt, listening, &fault);
         }
     };
-    let (is_cut, version) = (
+    let (is_cut, due) = (
         served.is_cut || outbox.is_failed(),
-        version_of(lifetime_of(listening)),
+        header_of(lifetime_of(listening), served.needs_three),
     );
-    let stored = store_trace(rt, file, is_cut, version, served.needs_three);
+    let stored = store_trace(rt, file, is_cut, begun_header(listening), due);
     if stays || stored.is_ok() {
         println!(rt; "CLOSED {} {}", served.events, served.commits)?;
     }

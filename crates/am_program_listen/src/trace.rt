@@ -1,12 +1,14 @@
 //! The file of a server's trace, from its opening until it has its name.
 
-ghost use Rattle.std.specs.Prelude.{◌≡◌, IfOk, is_some, true, false, None, Ok, Err};
+ghost use Rattle.std.specs.Prelude.{◌≡◌, ◌≢◌, IfOk, is_some, true, false, None, Ok, Err};
+ghost use Rattle.am_trace_text.specs.Headers.{line_version};
+ghost use Rattle.am_trace_text.specs.declared.version.Version.TheVariants.{One};
 
 use crate::ending::remove_socket;
 use crate::fault::ListenFault;
 use am_program_options::Listening;
 use am_trace_file::{GrowingFile, Outbox, Sending, TraceFile};
-use am_trace_text::Version;
+use am_trace_text::Header;
 use am_trace_writer::{PieceTaker, TraceWriter};
 use std::fs::File;
 use std::rt::Files;
@@ -91,8 +93,7 @@ fn open_file<R: AllocGlobal + Files<File = File>>(
     Ok(OpenedFile { trace, file, name })
 }
 
-/// The writer of the trace, where a file is named, which has written its first line: that of version 3, since nobody
-/// knows yet whether an older one can write what comes.
+/// The writer of the trace, where a file is named, which has written this first line.
 ///
 /// # Errors
 /// CannotWriteTrace, where the server stays and the line can't be written; nothing is left of the socket then.
@@ -101,13 +102,15 @@ pub fn begin_trace<'a, R: AllocGlobal + Files + Eprint + Wait>(
     rt: &'a R,
     listening: &Listening<'_>,
     outbox: &'a Outbox,
+    header: Header,
 ) -> Result<Option<Writer<'a, R>>, ListenFault>
+    requires written { line_version header ≢ One }
     ensures { IfOk result (λ writer. is_some writer ≡ is_some listening.now.trace) }
 {
     if listening.trace.is_none() {
         return Ok(None);
     }
-    let writer = TraceWriter::begin(rt.alloc(), Sending::new(rt, outbox), Version::Three);
+    let writer = TraceWriter::begin(rt.alloc(), Sending::new(rt, outbox), header);
     if listening.stays && writer.is_cut() {
         remove_socket(rt, listening);
         return Err(ListenFault::CannotWriteTrace(None));
@@ -122,8 +125,8 @@ pub fn forget_trace<R: Files>(rt: &R, file: Option<&TraceFile>) {
     }
 }
 
-/// Gives what was written the name of the file, where one is named. Before that its first line gets the version, unless
-/// the third alone writes what was taken. Of a trace that is cut nothing is left.
+/// Gives what was written the name of the file, where one is named. Before that its first line is mended, where another
+/// is due than the one that it was begun with. Of a trace that is cut nothing is left.
 ///
 /// # Errors
 /// CannotWriteTrace, where the trace is cut, or the system refuses the name.
@@ -131,8 +134,8 @@ pub fn store_trace<R: Files<File = File>>(
     rt: &R,
     file: Option<&TraceFile>,
     is_cut: bool,
-    version: Version,
-    needs_three: bool,
+    begun: Header,
+    due: Header,
 ) -> Result<(), ListenFault>
     ensures cut { is_cut ≡ true → result ≡ Err (ListenFault.CannotWriteTrace None) }
     ensures unnamed { file.entry ≡ None → is_cut ≡ false → result ≡ Ok tt }
@@ -143,8 +146,8 @@ pub fn store_trace<R: Files<File = File>>(
     }
     match file {
         Some(file) => {
-            if !needs_three && version != Version::Three {
-                file.mend_first_line(rt, version.header())?;
+            if due != begun {
+                file.mend_first_line(rt, due.line().as_slice())?;
             }
             file.keep(rt)?;
             Ok(())

@@ -13,7 +13,7 @@ use Rattle.am_serve_connections.specs.declared.lifetime.Lifetime.{Lifetime}
 use Rattle.am_serve_connections.specs.declared.lifetime.Lifetime.TheVariants.{Bounded, Staying}
 use Rattle.am_serve_connections.specs.Lifetimes.{most_turns, stays, upkeep_of}
 use Rattle.am_serve.specs.ServerTraces.{HasWorked, IsOfWorker}
-use Rattle.am_serve.specs.Versions.{most_runs_for}
+use Rattle.am_serve.specs.Headers.{most_runs_for}
 
 pub same_worked : (lifetime : Lifetime) (runs : ℕ) (xs ys : List SeatState) → AllZip (HasWorked lifetime runs) xs ys →
     seat_numbers ys ≡ seat_numbers xs

@@ -1,4 +1,4 @@
 pub mod ServerTraces
-pub mod Versions
+pub mod Headers
 pub mod Pieces
 pub mod Listeners

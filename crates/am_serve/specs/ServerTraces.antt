@@ -14,7 +14,7 @@ use Rattle.am_serve_workers.specs.Turns.{AreOfTurns, HasTakenTurns}
 use Rattle.am_trace_writer.specs.Events.{add_count}
 use Rattle.am_serve_connections.specs.Lifetimes.{most_sessions, most_turns, upkeep_of}
 use Rattle.am_serve_connections.specs.declared.lifetime.Lifetime.{Lifetime}
-use Rattle.am_serve.specs.Versions.{most_runs_for}
+use Rattle.am_serve.specs.Headers.{most_runs_for}
 use Rattle.am_serve.specs.declared.server_trace.ServerTrace.{ServerTrace}
 
 abbrev pub HasSameSeat : SessionSeatState → SessionSeatState → Type 0
@@ -86,7 +86,7 @@ pub record HasStored {T : Type 0} (took : T → Trace → T → Type 0) (most_ru
   pub sound : IsTraceOf most_runs seats trace s.commits
 
 -- and the seats are those of so many sessions at once and of so many workers, which leave so many runs that nobody asks
--- for; its store makes as many runs at most as the version of its trace says
+-- for; its store makes as many runs at most as its trace's first line says
 pub record IsServerTrace {T : Type 0} (took : T → Trace → T → Type 0) (first : T) (lifetime : Lifetime)
     (runs session_count worker_count : ℕ) (s : ServerTrace T) : Type 0 where
   pub sessions : List SessionSeatState

@@ -4,9 +4,9 @@ ghost use Rattle.std.specs.Prelude.{◌≡◌, ◌≤◌, ◌<◌, ◌*◌, IfOk
 ghost use Rattle.am_serve.specs.Listeners.{IsAtPort, IsAtSocket};
 ghost use Rattle.am_serve.specs.ServerTraces.{IsServerTrace};
 
+use crate::header::header_of;
 use crate::server::run;
 use crate::server_trace::ServerTrace;
-use crate::version::version_of;
 use am_latch::Blank;
 use am_latch_counters::Counters;
 use am_record::{HashKey, NoMemory};
@@ -166,7 +166,8 @@ impl Listener {
     {
         let endpoints = self.endpoints();
         let seats = endpoints.seats(sessions);
-        let most_runs = version_of(lifetime).most_runs();
+        // Whatever its steps need, the header says as many.
+        let most_runs = header_of(lifetime, false).most_runs();
         let Ok(blank) = Blank::new(self.alloc, seats + workers, most_runs) else {
             return Err(NoMemory);
         };

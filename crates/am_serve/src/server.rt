@@ -8,7 +8,7 @@ ghost use Rattle.am_serve.specs.ServerTraces.{HasServedInTurn, HasStored, HasWor
 ghost use Rattle.am_serve_connections.specs.Lifetimes.{most_sessions};
 ghost use Rattle.am_serve_drain.specs.Pieces.{HasTaken};
 ghost use Rattle.am_serve.specs.Pieces.{HasClosed};
-ghost use Rattle.am_serve.specs.Versions.{most_runs_for};
+ghost use Rattle.am_serve.specs.Headers.{most_runs_for};
 
 use crate::server_trace::ServerTrace;
 use crate::turns::serve_in_turn;

@@ -8,6 +8,7 @@ ghost use Rattle.am_record.specs.Limits.{max_runs};
 ghost use Rattle.am_record.specs.Refusals.{refusal_before_lock};
 ghost use Rattle.am_store.specs.Admission.{IsLockRefusal, IsLockGranted, wish_of};
 
+use crate::asked_operation::AskedOperation;
 use am_index::PartIndex;
 use am_index_parts::Parts;
 use am_record::{Lock, MAX_RUNS, Op, Range, Refusal};
@@ -16,19 +17,19 @@ use am_store_tx::TxTable;
 
 /// The refusal that is due before a lock is asked for, where so many runs may be made in all.
 #[inline(never)]
-pub(crate) fn refusal<I: PartIndex + Drop>(
+pub(crate) fn refusal<I: PartIndex + Drop, A: AskedOperation>(
     parts: &Parts<I>,
     most_runs: u32,
     txs: &TxTable,
     tx: u64,
-    op: &Op,
+    asked: &A,
 ) -> Option<Refusal>
     ensures { result ≡ refusal_before_lock (is_active_in txs.now.active tx) (ops_in txs.now.active tx)
-        (nat_le most_runs parts.now.runs || nat_le max_runs (runs_in parts.now.entries)) op.now }
+        (nat_le most_runs parts.now.runs || nat_le max_runs (runs_in parts.now.entries)) (A.op asked.now) }
 {
     let is_active = txs.is_active(tx);
     let ops = if is_active { txs.ops(tx) } else { 0 };
-    op.refusal(is_active, ops, has_all_runs(parts, most_runs))
+    asked.refusal(is_active, ops, has_all_runs(parts, most_runs))
 }
 
 // Whether no further run may be made: as many were made as may be, or 65,535 have entries.

@@ -10,6 +10,7 @@
 #![tactic(auto)]
 
 mod admission;
+mod asked_operation;
 mod entries;
 mod inner;
 mod maintenance;

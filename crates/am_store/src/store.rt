@@ -2,6 +2,9 @@
 
 ghost use Rattle.std.specs.Prelude.{◌≡◌, ◌+◌, ◌≤◌, ◌^◌, [], ◌∷◌, true, length, IfOk};
 ghost use Rattle.am_record.specs.Limits.{max_runs, last_run};
+ghost use Rattle.am_record.specs.Plain.{is_rising};
+ghost use Rattle.am_record.specs.declared.step.Op.TheVariants.{Load};
+ghost use Rattle.am_record.specs.declared.step.Step.TheVariants.{Do};
 ghost use Rattle.am_record.specs.declared.step.Refusal.{Refusal as TheRefusal};
 ghost use Rattle.am_record.specs.declared.step.Refusal.TheVariants.{NoMemory as OutOfMemory};
 ghost use Rattle.am_index.specs.Entries.{next_ghost};
@@ -13,9 +16,10 @@ ghost use Rattle.am_store.specs.Memory.{may_want_memory};
 ghost use Rattle.am_store.specs.StoreSteps.{IsSoundAt, Extends, IsWithin, KeepsContent};
 ghost use Rattle.am_store.specs.InnerState.{inner_state, HasRooms};
 
+use crate::asked_operation::SourceLoad;
 use crate::entries::all_entries;
 use crate::inner::Inner;
-use am_index::{Figures, PartIndex};
+use am_index::{Figures, PartIndex, RecordSource};
 use am_index_parts::Parts;
 use am_record::{Entry, HashKey, Key, MAX_RUNS, NoMemory, Range, Reply, Step};
 use am_store_merge::{Wishes, next_in_runs};
@@ -118,6 +122,23 @@ impl<I: PartIndex + Drop> Store<I> {
         step_there(&mut self.inner, step)
     }
 
+    /// Loads the records of a source, which rise, one or more: the step `Do(tx, Load(records))`. None of them is copied
+    /// but to where it stays in the index.
+    pub fn load<S: RecordSource>(&mut self, tx: u64, source: &S) -> Reply
+        requires { is_rising (S.records source.now) ≡ true }
+        ensures says { MayAnswer self.old (Do tx (Load (S.records source.now))) result }
+        ensures after { self.new ≡ state_after self.old (Do tx (Load (S.records source.now))) result }
+        ensures goes { Extends self.old ((Do tx (Load (S.records source.now)), result) ∷ []) self.new }
+
+        // A refused load leaves the store as it was.
+        ensures refused { (why : TheRefusal) → result ≡ Reply.Refused why → self.new ≡ self.old }
+        ensures memory { result ≡ Reply.Refused OutOfMemory →
+            may_want_memory self.old (Do tx (Load (S.records source.now))) ≡ true }
+    {
+        am_law_sound::steps_lift();
+        load_there(&mut self.inner, tx, source)
+    }
+
     /// The entries of all partitions, ghosts too, by partition and key.
     ///
     /// # Errors
@@ -181,4 +202,25 @@ fn step_there<I: PartIndex + Drop>(inner: &mut Box<Inner<I>>, step: Step) -> Rep
 {
     let inner = &mut **inner;
     inner.step(step)
+}
+
+// Loads the source's records where the store stands.
+fn load_there<I: PartIndex + Drop, S: RecordSource>(
+    inner: &mut Box<Inner<I>>,
+    tx: u64,
+    source: &S,
+) -> Reply
+    requires fit { IsFit (inner_state inner.old.value) }
+    requires room { HasRooms inner.old.value }
+    requires runs { inner.old.value.most_runs ≤ last_run }
+    requires rising { is_rising (S.records source.now) ≡ true }
+    ensures says { MayAnswer (inner_state inner.old.value) (Do tx (Load (S.records source.now))) result }
+    ensures after { inner_state inner.new.value ≡
+        state_after (inner_state inner.old.value) (Do tx (Load (S.records source.now))) result }
+    ensures memory { result ≡ Reply.Refused OutOfMemory →
+        may_want_memory (inner_state inner.old.value) (Do tx (Load (S.records source.now))) ≡ true }
+    ensures rooms { KeepRoom inner.old.value.parts.roomy inner.new.value.parts.roomy inner.new.value.parts.entries }
+{
+    let inner = &mut **inner;
+    inner.operate(tx, SourceLoad::new(source))
 }

@@ -3,16 +3,16 @@ use Rattle.std.proofs.Common.{◌≡◌, ◌≢◌, ℕ, zero, suc, ◌<◌, Lis
 use Rattle.std.proofs.Common.{None, sym, ap, ◌∙◌, subst, arith, ⊎_elim}
 use Rattle.std.specs.Prelude.{is_some, IfSome}
 use Rattle.std.proofs.lemmas.Bool.{cases_Bool, cases_eq, and_parts, and_from, or_left, or_right, or_cases, false≢true}
-use Rattle.std.proofs.lemmas.Option.{none-some, same_Some}
 use Rattle.std.specs.Ordering.{is_lt}
-use Rattle.std.specs.List.{AllByRecursion, slice_get}
+use Rattle.std.proofs.lemmas.List.{get_or-take}
+use Rattle.std.specs.List.{AllByRecursion}
 use Rattle.std.specs.FinMap.{get, is_sorted}
-use Rattle.am_record.specs.OrderedKey.{OrderedKey, key_cmp, key_cmp-total, key_eq-exact}
+use Rattle.am_record.specs.OrderedKey.{OrderedKey, key_cmp, key_cmp-total, key_eq-exact, key_least}
 use Rattle.am_record.specs.Interval.{key_le}
-use Rattle.am_record.specs.Plain.{Records, is_key_of, first_key, least_taken}
+use Rattle.am_record.specs.Plain.{Records, is_key_of, is_rising, first_key, least_taken}
 use Rattle.am_record.specs.declared.entry.Entry.{Entry}
 use Rattle.am_record.proofs.FirstRows.{key_eq, Record}
-use Rattle.am_record.proofs.RisingRecords.{sorted_parts}
+use Rattle.am_record.proofs.RisingRecords.{sorted_parts, run_sorted}
 use Rattle.am_record.proofs.Orderings.{is_less}
 use Rattle.am_index.specs.Entries.{next_from}
 use Rattle.am_index.specs.Content.{content, IsLiveAt}
@@ -26,21 +26,24 @@ use Rattle.am_store_loads.proofs.LeastTaken.{least_found}
 
 -- ---- the final partition
 
-pub empty_final : {es : List Entry} → AreWellFormed es → (records : Records) (r : Record) →
-    slice_get records 0 ≡ Some r →
-    is_sorted key_cmp records ≡ true → next_from es 0 r.0 ≡ None → NoneLiveIn es 0 records
-empty_final sound [] r first sorted none = absurd (none-some r first)
-empty_final {es} sound (x ∷ rs) r first sorted none = nothing_reached (walk_laws es sound.rising) 0 x rs sorted
-    (ap (λ (y : Record). next_from es 0 y.0) (same_Some _ _ first) ∙ none)
+-- the key is that of the record at the place
+abbrev pub IsKeyAt : Records → ℕ → OrderedKey → Type 0
+IsKeyAt rs i key = key ≡ (get_or rs i (key_least, [])).0
+
+pub empty_final : {es : List Entry} → AreWellFormed es → (records : Records) (low : OrderedKey) →
+    IsKeyAt records 0 low → is_rising records ≡ true → next_from es 0 low ≡ None → NoneLiveIn es 0 records
+empty_final sound [] low first rising none = absurd (false≢true rising)
+empty_final {es} sound (r ∷ rs) low first rising none = nothing_reached (walk_laws es sound.rising) 0 r rs
+    (run_sorted (r ∷ rs) rising) (ap (next_from es 0) (sym first) ∙ none)
 
 pub first_of_final : {es : List Entry} (sound : AreWellFormed es) (low : OrderedKey) (e : Entry) →
     next_from es 0 low ≡ Some e → e.part ≡ 0
 first_of_final {es} sound low e next = ((walk_laws es sound.rising).from_some 0 low e next).in_part
 
-pub from_first : (es : List Entry) (records : Records) (r : Record) (e : Entry) → slice_get records 0 ≡ Some r →
-    e.part ≡ 0 → next_from es 0 r.0 ≡ Some e → IfSome (first_key records) (λ low. next_from es e.part low ≡ Some e)
-from_first es [] r e first final next = tt
-from_first es (x ∷ rs) r e first final next = (λ i. next_from es (final i) (same_Some _ _ first i).0) ∙ next
+pub from_first : (es : List Entry) (records : Records) (low : OrderedKey) (e : Entry) → IsKeyAt records 0 low →
+    e.part ≡ 0 → next_from es 0 low ≡ Some e → IfSome (first_key records) (λ key. next_from es e.part key ≡ Some e)
+from_first es [] low e first final next = tt
+from_first es (r ∷ rs) low e first final next = (λ i. next_from es (final i) (sym first i)) ∙ next
 
 -- ---- the runs
 
@@ -48,11 +51,14 @@ from_first es (x ∷ rs) r e first final next = (λ i. next_from es (final i) (s
 abbrev pub NoneSeen : List Entry → Records → Type 0
 NoneSeen es rs = AllByRecursion (λ (r : Record). LivesInNoRun es r.0) rs
 
-pub one_more_seen : (es : List Entry) (rs : Records) (i : ℕ) (r : Record) → i < length rs → r ≡ get_or rs i r →
-    LivesInNoRun es r.0 → NoneSeen es (take i rs) → NoneSeen es (take (suc i) rs)
-one_more_seen es [] i r lt e none seen = absurd (omega arith)
-one_more_seen es (q ∷ rs) zero r lt e none seen = (subst (λ (x : Record). LivesInNoRun es x.0) e none, tt)
-one_more_seen es (q ∷ rs) (suc i) r lt e none seen = (seen.0, one_more_seen es rs i r (omega arith) e none seen.1)
+pub one_more_seen : (es : List Entry) (rs : Records) (i : ℕ) (key : OrderedKey) → i < length rs → IsKeyAt rs i key →
+    LivesInNoRun es key → NoneSeen es (take i rs) → NoneSeen es (take (suc i) rs)
+one_more_seen es [] i key lt at none seen = absurd (omega arith)
+one_more_seen es (r ∷ rs) zero key lt at none seen = (subst (LivesInNoRun es) at none, tt)
+one_more_seen es (r ∷ rs) (suc i) key lt at none seen = (
+  seen.0,
+  one_more_seen es rs i key (omega arith) at none seen.1,
+)
 
 pub none_of_seen : (es : List Entry) (rs : Records) → NoneSeen es rs → (q : OrderedKey) → is_key_of rs q ≡ true →
     LivesInNoRun es q
@@ -63,23 +69,38 @@ none_of_seen es (r ∷ rs) seen q key =
     (λ later. none_of_seen es rs seen.1 q later)
     (or_cases (key_eq q r.0) (is_key_of rs q) key)
 
-pub is_key_at : (rs : Records) (i : ℕ) (r : Record) → i < length rs → r ≡ get_or rs i r → is_key_of rs r.0 ≡ true
-is_key_at [] i r lt e = absurd (omega arith)
-is_key_at (q ∷ rs) zero r lt e = or_left (key_eq r.0 q.0) (is_key_of rs r.0) (same_key (ap (λ (x : Record). x.0) e))
-is_key_at (q ∷ rs) (suc i) r lt e = or_right (key_eq r.0 q.0) (is_key_of rs r.0) (is_key_at rs i r (omega arith) e)
+is_key_at : (rs : Records) (i : ℕ) (key : OrderedKey) → i < length rs → IsKeyAt rs i key → is_key_of rs key ≡ true
+is_key_at [] i key lt at = absurd (omega arith)
+is_key_at (r ∷ rs) zero key lt at = or_left (key_eq key r.0) (is_key_of rs key) (same_key at)
+is_key_at (r ∷ rs) (suc i) key lt at =
+    or_right (key_eq key r.0) (is_key_of rs key) (is_key_at rs i key (omega arith) at)
 
--- what is below the record at an index stands before it
-pub none_below_at : (es : List Entry) (rs : Records) (i : ℕ) (r : Record) → is_sorted key_cmp rs ≡ true →
-    i < length rs → r ≡ get_or rs i r → NoneSeen es (take i rs)
-    → (q : OrderedKey) → is_key_of rs q ≡ true → is_lt (key_cmp q r.0) ≡ true → LivesInNoRun es q
-none_below_at es [] i r sorted lt e seen q key less = absurd (omega arith)
-none_below_at es (x ∷ rs) zero r sorted lt e seen q key less =
-    absurd (less_not q r.0 less (ap (λ (y : Record). key_le y.0 q) e ∙ first_below x rs q sorted key))
-none_below_at es (x ∷ rs) (suc i) r sorted lt e seen q key less =
+-- what is below the record at a place stands before it
+none_below_at : (es : List Entry) (rs : Records) (i : ℕ) (key : OrderedKey) → is_sorted key_cmp rs ≡ true →
+    i < length rs → IsKeyAt rs i key → NoneSeen es (take i rs)
+    → (q : OrderedKey) → is_key_of rs q ≡ true → is_lt (key_cmp q key) ≡ true → LivesInNoRun es q
+none_below_at es [] i key sorted lt at seen q one less = absurd (omega arith)
+none_below_at es (r ∷ rs) zero key sorted lt at seen q one less =
+    absurd (less_not q key less (ap (λ k. key_le k q) at ∙ first_below r rs q sorted one))
+none_below_at es (r ∷ rs) (suc i) key sorted lt at seen q one less =
     ⊎_elim
-    (λ here. subst (LivesInNoRun es) (sym (key_eq-exact q x.0 here)) seen.0)
-    (λ later. none_below_at es rs i r (sorted_parts x rs sorted).1 (omega arith) e seen.1 q later less)
-    (or_cases (key_eq q x.0) (is_key_of rs q) key)
+    (λ here. subst (LivesInNoRun es) (sym (key_eq-exact q r.0 here)) seen.0)
+    (λ later. none_below_at es rs i key (sorted_parts r rs sorted).1 (omega arith) at seen.1 q later less)
+    (or_cases (key_eq q r.0) (is_key_of rs q) one)
+
+pub least_at : (es : List Entry) (rs : Records) (i : ℕ) (key : OrderedKey) (part : ℕ) →
+    is_sorted key_cmp rs ≡ true → i < length rs → IsKeyAt rs i key → NoneSeen es (take i rs) →
+    LivesIn es part key → IsLeastInRuns es rs key
+least_at es rs i key part sorted lt at seen lives = record {
+  is_key = is_key_at rs i key lt at;
+  part = part;
+  lives = lives;
+  least = none_below_at es rs i key sorted lt at seen;
+}
+
+-- the same of the first few of some records
+pub key_at_taken : (rs : Records) (n i : ℕ) (key : OrderedKey) → i < n → IsKeyAt rs i key → IsKeyAt (take n rs) i key
+key_at_taken rs n i key lt at = at ∙ ap (λ (r : Record). r.0) (sym (get_or-take n rs i (key_least, []) lt))
 
 -- what the look into the runs answers
 abbrev pub IsRunsAnswer : List Entry → Records → Option OrderedKey → Type 0

@@ -1,5 +1,5 @@
 -- The entries and the content while the records of a run go in, and while they are taken out again.
-use Rattle.std.proofs.Common.{◌≡◌, ℕ, ◌+◌, ◌<◌, ◌≤◌, true, false, List, [], ◌∷◌, ◌++◌, Result, sym, ap}
+use Rattle.std.proofs.Common.{◌≡◌, ℕ, ◌+◌, ◌<◌, ◌≤◌, true, false, List, [], ◌∷◌, ◌++◌, Result, sym}
 use Rattle.std.proofs.Common.{◌∙◌, subst, arith}
 use Rattle.std.specs.Prelude.{is_err, OnOk}
 use Rattle.am_record.specs.Plain.{Records, insert_all}
@@ -45,22 +45,19 @@ as_with_run {part} rs {es} {after} above rising is =
     (AllByRecursion-map (λ e. e.part ≤ part) (λ e. e.part < part + 1) (λ e low. omega (arith, low)) es above.all))
 
 -- what was added and counted is a run more; nothing stands above it
-module _ {T E : Type 0} (before after : Partitions) (records seen : Records) (r : Result T E) (ok : is_err r ≡ false)
-    (same : seen ≡ records)
-    (above : NothingAbove before.runs before.entries) (rising : is_rising seen ≡ true)
-    (added : OnOk r (after.entries ≡ before.entries ++ run_entries (before.runs + 1) seen))
+module _ {T E : Type 0} (before after : Partitions) (records : Records) (r : Result T E) (ok : is_err r ≡ false)
+    (above : NothingAbove before.runs before.entries) (rising : is_rising records ≡ true)
+    (added : OnOk r (after.entries ≡ before.entries ++ run_entries (before.runs + 1) records))
     (counted : OnOk r (after.runs ≡ before.runs + 1)) where
   new_entries : after.entries ≡ with_run (before.runs + 1) records before.entries
-  new_entries = as_with_run seen above rising (on_ok r ok added) ∙
-      ap (λ (rs : Records). with_run (before.runs + 1) rs before.entries) same
+  new_entries = as_with_run records above rising (on_ok r ok added)
 
-  pub loaded : OnOk r (HasContent after.entries (insert_all seen (content before.entries))) →
+  pub loaded : OnOk r (HasContent after.entries (insert_all records (content before.entries))) →
       IsLoaded before records after
   loaded has = record {
     entries = new_entries;
     runs = on_ok r ok counted;
-    has = subst (λ (rs : Records). HasContent after.entries (insert_all rs (content before.entries))) same
-        (on_ok r ok has);
+    has = on_ok r ok has;
   }
 
   pub nothing_above-loaded : NothingAbove after.runs after.entries

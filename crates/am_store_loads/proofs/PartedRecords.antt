@@ -1,9 +1,9 @@
 -- Rising records parted at a key: those below it, and the others.
 use Rattle.std.proofs.Common.{◌≡◌, ℕ, ◌<◌, ◌≤◌, zero, suc, Bool, true, false, ◌&&◌, ◌||◌, not, cond, List, [], ◌∷◌}
-use Rattle.std.proofs.Common.{length, get_or, take, drop, filter, refl, sym, ap, ◌∙◌, subst, arith, ⊎_elim}
-use Rattle.std.proofs.lemmas.Bool.{cond-true, cond-false, cases_lt, true≢false, false≢true, false_from_ne_true}
+use Rattle.std.proofs.Common.{◌+◌, ◌-◌, length, get_or, take, drop, filter, refl, sym, ap, ◌∙◌, subst, arith}
+use Rattle.std.proofs.lemmas.Bool.{cond-true, cond-false, true≢false, false≢true, false_from_ne_true}
 use Rattle.std.proofs.Math.Bool.{and-false}
-use Rattle.std.proofs.lemmas.List.{length-take-le, get_or-take, get_or_default}
+use Rattle.std.proofs.lemmas.List.{length-drop, drop-drop, get_or-drop, get_or_default}
 use Rattle.std.specs.declared.cmp.Ordering.{Ordering}
 use Rattle.std.specs.declared.cmp.Ordering.TheVariants.{Less, Equal, Greater}
 use Rattle.std.specs.Ordering.{is_lt, is_le, ordering_reverse}
@@ -65,26 +65,21 @@ module _ {X : Type 0} (test : X → Bool) where
             (ap not here)),
       )
 
-  -- a point in a front, after which nothing passes
-  pub point_of_front : (xs : List X) (n i : ℕ) → n ≤ length xs → i ≤ length (take n xs) →
-      IsPartitionPoint (λ x. test x ≡ true) (λ x. test x ≡ false) (take n xs) i → AllWithin (λ x. test x ≡ false) xs n
-      (length xs)
-      → IsPartitionPoint (λ x. test x ≡ true) (λ x. test x ≡ false) xs i
-  point_of_front xs n i fits bound point behind =
-      let long : length (take n xs) ≡ n = length-take-le n xs fits in (
-        (λ k d from below. subst (λ x. test x ≡ true) (get_or-take n xs k d (omega (arith, long, bound, below)))
-            (point.0 k d from below)),
-        (λ k d from below.
-            ⊎_elim (λ inside. subst (λ x. test x ≡ false) (get_or-take n xs k d inside)
-            (point.1 k d from (omega (arith, long, inside)))) (λ past. behind k d past below) (cases_lt k n)),
+  -- the same of what is left of a list from a place on, up to another one
+  pub parted_from : (xs : List X) (from to : ℕ) → from ≤ to → to ≤ length xs →
+      AllWithin (λ x. test x ≡ true) xs from to → AllWithin (λ x. test x ≡ false) xs to (length xs) →
+      (take (to - from) (drop from xs) ≡ filter test (drop from xs)) ×
+      (drop to xs ≡ filter (λ x. not (test x)) (drop from xs))
+  parted_from xs from to order within pass fail =
+      let both = parted (drop from xs) (to - from) (
+        (λ k d low below. subst (λ x. test x ≡ true) (sym (get_or-drop from xs k d))
+            (pass (from + k) d (omega arith) (omega (arith, below, order)))),
+        (λ k d low below. subst (λ x. test x ≡ false) (sym (get_or-drop from xs k d))
+            (fail (from + k) d (omega (arith, low, order)) (omega (arith, below, length-drop from xs)))),
+      ) in (
+        both.0,
+        ap (λ n. drop n xs) (omega (arith, order)) ∙ sym (drop-drop (to - from) from xs) ∙ both.1,
       )
-
-  pub partitioned_front : (xs : List X) (n : ℕ) → n ≤ length xs → IsPartitionedBy test xs →
-      IsPartitionedBy test (take n xs)
-  partitioned_front xs n fits parts i j d le less h =
-      let inside : j < n = omega (arith, length-take-le n xs fits, less) in
-      ap test (get_or-take n xs i d (omega (arith, inside, le))) ∙ parts i j d le (omega (arith, inside, fits))
-      (sym (ap test (get_or-take n xs j d inside)) ∙ h)
 
 -- ---- records below a key
 
@@ -105,6 +100,13 @@ sorted_partitioned key (r ∷ rs) sorted (suc i) zero d le less h = absurd (omeg
 sorted_partitioned key (r ∷ rs) sorted (suc i) (suc j) d le less h =
     sorted_partitioned key rs (sorted_parts r rs sorted).1 i j d (omega arith) (omega arith) h
 
+-- up to a record below the key all are
+pub all_below_to : (key : OrderedKey) (rs : Records) → is_sorted key_cmp rs ≡ true → (i : ℕ) (r : Record) →
+    i < length rs → is_lt (key_cmp (get_or rs i r).0 key) ≡ true
+    → (k : ℕ) (d : Record) → k ≤ i → is_lt (key_cmp (get_or rs k d).0 key) ≡ true
+all_below_to key rs sorted i r inside less k d le = sorted_partitioned key rs sorted k i d le inside
+    (ap (λ (x : Record). is_lt (key_cmp x.0 key)) (get_or_default rs i d r inside) ∙ less)
+
 -- from a record at or above the key on none is below it
 pub none_below_from : (key : OrderedKey) (rs : Records) → is_sorted key_cmp rs ≡ true → (i : ℕ) (r : Record) →
     i < length rs → key_le key (get_or rs i r).0 ≡ true
@@ -113,6 +115,20 @@ none_below_from key rs sorted i r inside le k d from below =
     false_from_ne_true (is_lt (key_cmp (get_or rs k d).0 key)) (λ yes.
     less_not (get_or rs i d).0 key (sorted_partitioned key rs sorted i k d from below yes)
     (ap (λ (x : Record). key_le key x.0) (get_or_default rs i d r inside) ∙ le))
+
+-- ---- the first few of some records
+
+below_taken : (low : OrderedKey) (n : ℕ) (rs : Records) → Below low rs → Below low (take n rs)
+below_taken low zero rs below = tt
+below_taken low (suc n) [] below = tt
+below_taken low (suc n) (r ∷ rs) below = (below.0, below_taken low n rs below.1)
+
+pub sorted_taken : (n : ℕ) (rs : Records) → is_sorted key_cmp rs ≡ true → is_sorted key_cmp (take n rs) ≡ true
+sorted_taken zero rs sorted = refl
+sorted_taken (suc n) [] sorted = refl
+sorted_taken (suc n) (r ∷ rs) sorted =
+    let parts = sorted_parts r rs sorted in
+    sorted_from r (take n rs) (below_taken r.0 n rs parts.0) (sorted_taken n rs parts.1)
 
 -- ---- records whose keys pass a test
 

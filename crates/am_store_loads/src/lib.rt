@@ -1,8 +1,7 @@
 //! Loading a run into the partitions, all of it or none.
 //!
-//! A load gets the room for its note and its words first. Then it looks for each key, sixteen side by side, and
-//! enters it in the directory by the same probe. Where a key is live already it takes back what it entered. At last
-//! the records are appended to the tree, leaf by leaf.
+//! The records are read where they lie. The final partition is walked through beside them. Where none of their keys is
+//! live there, the partitions append them, unless one is live in a run. The least live key is looked for only then.
 #![tactic(auto)]
 
 mod look;

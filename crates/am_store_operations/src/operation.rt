@@ -60,8 +60,8 @@ pub fn carry_out<I: PartIndex + Drop>(
         Op::Set(key, value) => set(parts, log, key, value),
         Op::Delete(key) => delete(parts, log, key),
         Op::DeleteRange(range, max) => delete_range(alloc, parts, log, range, max),
-        Op::Load(records) => load_records(parts, log, records),
-        Op::Put(records) => put_records(alloc, parts, log, records),
+        Op::Load(records) => load_records(parts, log, &records),
+        Op::Put(records) => put_records(alloc, parts, log, &records),
         Op::Lock(_) => Ok(Reply::Done),
         Op::Mark => {
             log.mark()?;

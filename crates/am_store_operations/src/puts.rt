@@ -21,11 +21,10 @@ ghost use Rattle.am_record.specs.declared.step.Op.TheVariants.{Put};
 
 use crate::reads::find_live;
 use crate::writes::overwrite;
-use am_index::{Hint, PLACES_AT_ONCE, PartIndex};
+use am_index::{Hint, Listed, PLACES_AT_ONCE, PartIndex};
 use am_index_parts::Parts;
 use am_record::{Entry, Key, NoMemory, Records, Reply, Value};
 use am_store_loads::load;
-use am_store_runs::Run;
 use am_store_undo::{Note, UndoLog};
 use std::alloc::Global;
 
@@ -63,13 +62,13 @@ pub(crate) fn put_records<I: PartIndex + Drop>(
     alloc: Global,
     parts: &mut Parts<I>,
     log: &mut UndoLog,
-    records: Records,
+    records: &Records,
 ) -> Result<Reply, NoMemory>
-    requires rising { is_rising records ≡ true }
+    requires rising { is_rising records.now ≡ true }
     requires room { parts.old.runs < last_run }
     requires above { NothingAbove parts.old.runs parts.old.entries }
     requires values { HaveRoom parts.old.entries parts.old.roomy }
-    ensures done { IfOk result (λ reply. IsDone (Put records) reply parts.old log.old parts.new log.new) }
+    ensures done { IfOk result (λ reply. IsDone (Put records.now) reply parts.old log.old parts.new log.new) }
     ensures err { OnErr result (LeavesAlone parts.old log.old parts.new log.new) }
     ensures rooms { KeepRoom parts.old.roomy parts.new.roomy parts.new.entries }
 {
@@ -164,8 +163,8 @@ fn load_new<I: PartIndex + Drop>(
     if new.is_empty() {
         return Ok(());
     }
-    let run = Run::of_rising(new);
-    if load(parts, &run) != Reply::Done {
+    let new = Listed { records: &new };
+    if load(parts, &new) != Reply::Done {
         return Err(NoMemory);
     }
     log.note(Note::RunMade(parts.runs()));

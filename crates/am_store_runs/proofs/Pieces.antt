@@ -1,8 +1,9 @@
 -- Records that are cut piece by piece.
 use Rattle.std.proofs.Common.{◌≡◌, ℕ, ◌<◌, ◌≤◌, ◌+◌, ◌-◌, zero, suc, List, [], ◌∷◌, ◌++◌, length, take, drop}
-use Rattle.std.proofs.Common.{refl, sym, ap}
+use Rattle.std.proofs.Common.{None, refl, sym, ap}
 use Rattle.std.proofs.Common.{◌∙◌, subst, arith, append_assoc, length-append}
-use Rattle.std.specs.Prelude.{min}
+use Rattle.std.specs.Prelude.{min, slice_get}
+use Rattle.std.proofs.lemmas.Option.{none-some}
 use Rattle.std.specs.List.Sorted.{IsPermutation}
 use Rattle.std.proofs.Math.Seq.{take-append_seam}
 use Rattle.std.proofs.lemmas.List.{append-nil, take_all, drop_all, take-append-drop, drop-drop, length-drop}
@@ -11,7 +12,7 @@ use Rattle.am_record.specs.Plain.{Records}
 use Rattle.am_store_runs.specs.declared.fault.LoadFault.{LoadFault}
 use Rattle.am_store_runs.specs.declared.fault.LoadFault.TheVariants.{NotRising, BadSize, Twice, NoMemory}
 use Rattle.am_store_runs.specs.Cuts.{keys_of, records_of, times_among, NoneTwice, IsSortedPiece, AreRunsOf}
-use Rattle.am_store_runs.specs.Cuts.{IsPieceFault, IsTwiceFault}
+use Rattle.am_store_runs.specs.Cuts.{IsCut, IsPieceFault, IsTwiceFault}
 use Rattle.am_store_runs.specs.RecordPlaces.{piece}
 use Rattle.am_record.proofs.FirstRows.{Record}
 use Rattle.am_store_runs.proofs.Spots.{piece_long}
@@ -162,3 +163,9 @@ only_memory rs NotRising h none = h
 only_memory rs BadSize h none = h
 only_memory rs (Twice key) two none = absurd (omega (arith, two, none.once key))
 only_memory rs NoMemory h none = h
+
+-- the runs are all where none is still to come
+pub cut_to_end : (n : ℕ) (all : Records) (runs left : List Records) → IsCut n all (runs ++ left) →
+    None ≡ slice_get left 0 → IsCut n all runs
+cut_to_end n all runs [] h none = subst (IsCut n all) (append-nil runs) h
+cut_to_end n all runs (run ∷ left) h none = absurd (none-some run none)

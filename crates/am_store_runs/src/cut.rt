@@ -1,29 +1,31 @@
 //! Cutting records into runs.
 
-ghost use Rattle.std.specs.Prelude.{◌≡◌, ◌<◌, ℕ, drop, length, slice_get, IfOk, IfErr, OnOk, OnErr};
+ghost use Rattle.std.specs.Prelude.{◌≡◌, ℕ, true, drop, slice_get, IfSome, IfOk, IfErr};
+ghost use Rattle.am_record.specs.Plain.{is_rising};
 ghost use Rattle.am_store_runs.specs.Cuts.{keys_of, AreRunsOf, IsCut, IsCutFault, IsPieceFault, IsTwiceFault};
 ghost use Rattle.am_store_runs.specs.Cuts.{IsRunSize, NoneTwice};
 ghost use Rattle.am_store_runs.specs.RecordPlaces.{runs_named, AreOrders};
 
 use crate::fault::LoadFault;
 use crate::fronts::{keys_with, shared_fronts};
+use crate::ordered::Ordered;
 use crate::record_order::{Spot, order_of};
-use crate::record_source::{Listed, RecordSource};
 use crate::run::Run;
 use crate::ties::{first_tie, over_all};
-use am_record::{Key, MAX_RUN_RECORDS, NoMemory, Value};
+use am_index::{Listed, RecordSource};
+use am_record::{Key, MAX_RUN_RECORDS, Value};
 use std::alloc::Global;
 use std::marker::Model;
 
-/// Records that are cut into runs: of each run the order of its records is known, and none is copied before its run is
-/// asked for. Seen as the runs still to come.
+/// Records that are cut into runs: of each run the order of its records is known, and none is copied. Seen as the runs
+/// still to come.
 #[derive(Drop)]
 pub struct Cut<'a, S: RecordSource> {
     source: &'a S,
     // Of each run, where its records stand, by rising key.
     orders: Vec<Vec<Spot>>,
-    // How many runs were given.
-    given: usize,
+    // How many runs were passed.
+    passed: usize,
 }
 
 impl<'a, S: RecordSource> Model for Cut<'a, S> {
@@ -35,28 +37,28 @@ impl<'a, S: RecordSource> Model for Cut<'a, S> {
 
     ghost coded = { runs_code };
 
-    ghost view = { λ c. drop c.given (runs_named (S.records c.source.now) c.orders.items) };
+    ghost view = { λ c. drop c.passed (runs_named (S.records c.source.now) c.orders.items) };
 
     ghost invariant = { λ c. AreOrders (S.records c.source.now) c.orders.items };
 }
 
 impl<'a, S: RecordSource> Cut<'a, S> {
-    /// The next run, if there is one. Its records are copied from the source.
-    ///
-    /// # Errors
-    /// NoMemory, where memory was refused; the run is still to come.
-    pub fn next(&mut self, alloc: Global) -> Result<Option<Run>, NoMemory>
-        ensures run { IfOk result (λ run. run ≡ slice_get self.old 0) }
-        ensures rest { OnOk result (self.new ≡ drop 1 self.old) }
-        ensures same { OnErr result (self.new ≡ self.old) }
-        ensures left { OnErr result (0 < length self.old) }
+    /// The run that comes next, if there is one. Takes no memory: its records stay where they lie.
+    pub fn run(&self) -> Option<Ordered<'_, S>>
+        ensures run { result ≡ slice_get self.now 0 }
+        ensures rising { IfSome result (λ run. is_rising run ≡ true) }
     {
-        let Some(order) = self.orders.get(self.given) else {
-            return Ok(None);
-        };
-        let run = Run::in_order(alloc, self.source, order)?;
-        self.given += 1;
-        Ok(Some(run))
+        let order = self.orders.get(self.passed)?;
+        Some(Ordered::new(self.source, order))
+    }
+
+    /// Goes on to the run after it, if there is one.
+    pub fn pass(&mut self)
+        ensures { self.new ≡ drop 1 self.old }
+    {
+        if self.passed < self.orders.len() {
+            self.passed += 1;
+        }
     }
 }
 
@@ -74,13 +76,14 @@ pub fn cut_runs(alloc: Global, records: &[(Key, Value)], n: usize) -> Result<Vec
     let listed = Listed { records };
     let mut cut = cut_source(alloc, &listed, n)?;
     let mut runs = Vec::new(alloc);
-    while let Some(run) = cut.next(alloc)? {
-        runs.push(run)?;
+    while let Some(run) = cut.run() {
+        runs.push(run.to_run(alloc)?)?;
+        cut.pass();
     }
     Ok(runs)
 }
 
-/// The same of the records of a source, where each run is made when it is asked for.
+/// The same of the records of a source, where each run is an order over them.
 ///
 /// # Errors
 /// As of `cut_runs`.
@@ -103,7 +106,7 @@ pub fn cut_source<S: RecordSource>(
     Ok(Cut {
         source,
         orders,
-        given: 0,
+        passed: 0,
     })
 }
 

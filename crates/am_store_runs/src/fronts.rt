@@ -8,7 +8,7 @@ ghost use Rattle.am_store_runs.specs.Fronts.{fronts_in, is_member, with_fronts, 
 ghost use Rattle.am_store_runs.specs.RecordPlaces.{records_at, runs_named, AreOrders, IsOrder};
 
 use crate::record_order::Spot;
-use crate::record_source::RecordSource;
+use am_index::RecordSource;
 use am_record::Key;
 use std::alloc::{AllocError, Global};
 

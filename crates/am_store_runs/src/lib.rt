@@ -1,18 +1,19 @@
 //! Runs: records that rise by key, and cutting records in any order into them.
 //!
-//! Records are sorted by the first eight bytes of their keys, as numbers, each with its record's place, and are
-//! copied once. Keys are compared only where two of these numbers are equal.
+//! Records are sorted by the first eight bytes of their keys, as numbers, each with its record's place, and stay where
+//! they lie. Keys are compared only where two of these numbers are equal.
 #![tactic(auto)]
 
 mod cut;
 mod fault;
 mod fronts;
+mod ordered;
 mod record_order;
-mod record_source;
 mod run;
 mod ties;
 
+pub use am_index::RecordSource;
 pub use cut::{Cut, cut_runs, cut_source};
 pub use fault::LoadFault;
-pub use record_source::RecordSource;
+pub use ordered::Ordered;
 pub use run::Run;

@@ -8,8 +8,8 @@ ghost use Rattle.am_store_runs.specs.RecordPlaces.{AreSpots, IsGroupAdded, IsByK
 ghost use Rattle.am_store_runs.specs.RecordPlaces.{keys_among, records_at, piece, spots_among};
 
 use crate::fault::LoadFault;
-use crate::record_source::RecordSource;
 use crate::ties::first_tie;
+use am_index::RecordSource;
 use am_record::{Key, Value, fronts_follow_keys};
 use std::alloc::{AllocError, Global};
 

@@ -3,14 +3,14 @@
 ghost use Rattle.std.specs.Prelude.{◌≡◌, ◌↔◌, true, IsOk, IfOk, IfErr};
 ghost use Rattle.am_record.specs.Plain.{is_rising};
 ghost use Rattle.am_store_runs.specs.Cuts.{keys_of, IsSortedPiece, IsSortFault, NoneTwice};
-ghost use Rattle.am_store_runs.specs.RecordPlaces.{records_at, IsOrder};
 
 use crate::fault::LoadFault;
-use crate::record_order::{Spot, gather, order_of};
-use crate::record_source::{Listed, RecordSource};
+use crate::ordered::Ordered;
+use crate::record_order::order_of;
 use crate::ties::over_all;
+use am_index::{Listed, RecordSource};
 use am_record::{Key, Value, is_rising};
-use std::alloc::{AllocError, Global};
+use std::alloc::Global;
 use std::marker::Model;
 
 /// One record or more, their keys rising strictly.
@@ -84,24 +84,7 @@ impl Run {
             Ok(order) => order,
             Err(fault) => return Err(over_all(alloc, &listed, fault)),
         };
-        Ok(Run::in_order(alloc, &listed, &order)?)
-    }
-
-    /// The run of the records of a source that an order names. Each is copied once.
-    ///
-    /// # Errors
-    /// NoMemory, where memory was refused.
-    pub(crate) fn in_order<S: RecordSource>(
-        alloc: Global,
-        source: &S,
-        order: &[Spot],
-    ) -> Result<Run, AllocError>
-        requires { IsOrder (S.records source.now) order.now }
-        ensures { IfOk result (λ run. run ≡ records_at (S.records source.now) order.now) }
-    {
-        Ok(Run {
-            records: gather(alloc, source, order)?,
-        })
+        Ok(Ordered::new(&listed, &order).to_run(alloc)?)
     }
 
     /// The records, by rising key.
@@ -118,5 +101,21 @@ impl Run {
     {
         let Run { records } = self;
         records
+    }
+}
+
+impl RecordSource for Run {
+    ghost records = { λ run. run };
+
+    fn len(&self) -> usize {
+        self.records.len()
+    }
+
+    fn key(&self, at: usize) -> Key {
+        self.records[at].0
+    }
+
+    fn get(&self, at: usize) -> (Key, Value) {
+        self.records[at]
     }
 }

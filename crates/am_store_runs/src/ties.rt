@@ -6,7 +6,7 @@ ghost use Rattle.am_record.specs.OrderedKey.{key_cmp};
 ghost use Rattle.am_store_runs.specs.Cuts.{keys_of, NoneTwice, IsLeastTwice, IsPieceFault, IsTwiceFault};
 
 use crate::fault::LoadFault;
-use crate::record_source::RecordSource;
+use am_index::RecordSource;
 use am_record::{Key, NoMemory};
 use std::alloc::{AllocError, Global};
 

@@ -18,7 +18,7 @@ use Rattle.am_index.specs.Entries.{find}
 use Rattle.am_index.specs.Content.{rows_in, live_value, RowsRead}
 use Rattle.am_store_scan.specs.Directions.{cmp_in, cmp_in-total, le_in, as_read, rest_of}
 
-abbrev Row : Type 0
+abbrev pub Row : Type 0
 Row = OrderedKey × List ℕ
 
 -- ---- keys
@@ -89,7 +89,7 @@ to_rest back range k q inside = and_parts (le_in back k q) (le_in back q (last_k
 
 -- ---- rows that are turned round
 
-turned_cons : (row : Row) (rows : Records) → reverse (row ∷ rows) ≡ reverse rows ++ row ∷ []
+pub turned_cons : (row : Row) (rows : Records) → reverse (row ∷ rows) ≡ reverse rows ++ row ∷ []
 turned_cons row rows = reverse-append (row ∷ []) rows
 
 module _ (R : OrderedKey → OrderedKey → Ordering) where

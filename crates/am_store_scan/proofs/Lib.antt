@@ -5,3 +5,4 @@ mod GatheredHeads
 mod FirstHeads
 mod FirstRecords
 mod TakenRows
+mod Pieces

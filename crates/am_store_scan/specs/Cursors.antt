@@ -7,6 +7,7 @@ use Rattle.am_record.specs.Interval.{Interval, within}
 use Rattle.am_record.specs.Plain.{PlainMap, Records, rows_where}
 use Rattle.am_record.specs.declared.entry.Entry.{Entry}
 use Rattle.am_index.specs.Content.{IsLiveAt}
+use Rattle.am_index_parts.specs.Catalogs.{PartsRise, AllStandIn}
 use Rattle.am_index_parts.specs.Partitions.{AreWellFormed}
 use Rattle.am_store_scan.specs.Directions.{le_in, as_read}
 use Rattle.am_store_scan.specs.Heads.{Stand, head_cmp, IsHead}
@@ -25,6 +26,12 @@ is_ahead_in back heads part key = list_any (λ (h : Stand). h.part == part && le
 
 abbrev pub of_one_part : Stand → Stand → Bool
 of_one_part g h = g.part == h.part
+
+-- in the partitions stands all that stands in the range, and they rise
+pub record AreSources (es : List Entry) (range : Interval) (parts : List ℕ) : Type 0 where
+  pub sound : AreWellFormed es
+  pub every : AllStandIn es range parts
+  pub rising : PartsRise parts
 
 -- heads at live entries of the range, one of a partition at most
 pub record AreHeads (back : Bool) (es : List Entry) (range : Interval) (heads : List Stand) : Type 0 where

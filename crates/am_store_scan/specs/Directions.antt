@@ -1,10 +1,10 @@
 -- The directions in which a range is read: by rising key, or back, from the highest key down.
-use Rattle.std.specs.Prelude.{Bool, true, false, reverse}
+use Rattle.std.specs.Prelude.{◌≡◌, Bool, true, false, reverse}
 use Rattle.std.specs.declared.cmp.Ordering.{Ordering}
 use Rattle.std.specs.Ordering.{is_le, ordering_reverse}
 use Rattle.std.specs.Cmp.{IsTotalOrder, back_total}
 use Rattle.am_record.specs.OrderedKey.{OrderedKey, key_cmp, key_cmp-total}
-use Rattle.am_record.specs.Interval.{Interval}
+use Rattle.am_record.specs.Interval.{Interval, within}
 use Rattle.am_record.specs.Plain.{Records}
 
 -- how two keys stand that compare so by the order of keys
@@ -34,3 +34,13 @@ as_read true rows = reverse rows
 abbrev pub rest_of : Bool → Interval → OrderedKey → Interval
 rest_of false range key = record { lo = key; hi = range.hi }
 rest_of true range key = record { lo = range.lo; hi = key }
+
+-- the key of the range that is read first
+abbrev pub begin_of : Bool → Interval → OrderedKey
+begin_of false range = range.lo
+begin_of true range = range.hi
+
+-- the piece has keys of the range alone, and the same one is read first
+pub record BeginsAs (back : Bool) (range piece : Interval) : Type 0 where
+  pub inside : (key : OrderedKey) → within piece key ≡ true → within range key ≡ true
+  pub begin : begin_of back piece ≡ begin_of back range

@@ -4,6 +4,7 @@ ghost use Rattle.std.specs.Prelude.{◌≡◌, ◌≤◌, ◌++◌, IfOk, true, 
 ghost use Rattle.am_record.specs.Interval.{within};
 ghost use Rattle.am_record.specs.Plain.{rows_where};
 ghost use Rattle.am_index.specs.Content.{content};
+ghost use Rattle.am_store_scan.specs.Cursors.{AreSources};
 ghost use Rattle.am_store_scan.specs.Directions.{as_read};
 
 use crate::direction::{Direction, Forward};
@@ -72,12 +73,13 @@ impl<'a, I: PartIndex + Drop> Cursor<'a, I> {
     pub fn open(alloc: Global, parts: &'a Parts<I>, range: Range) -> Result<Cursor<'a, I>, NoMemory>
         ensures { IfOk result (λ rows. rows ≡ rows_where (within range) (content parts.now.entries)) }
     {
-        Cursor::open_for(alloc, parts, range, ROWS_AT_ONCE)
+        let sources = parts.parts_in(alloc, range)?;
+        Cursor::open_for(alloc, parts, range, &sources, ROWS_AT_ONCE)
     }
 }
 
 impl<'a, I: PartIndex + Drop, D: Direction> Cursor<'a, I, D> {
-    /// The same in any direction, where each partition is asked for so many rows at once.
+    /// The same in any direction, over those partitions, each of which is asked for so many rows at once.
     ///
     /// # Errors
     /// NoMemory, where memory was refused.
@@ -85,14 +87,16 @@ impl<'a, I: PartIndex + Drop, D: Direction> Cursor<'a, I, D> {
         alloc: Global,
         parts: &'a Parts<I>,
         range: Range,
+        sources: &[u32],
         rows_at_once: usize,
     ) -> Result<Cursor<'a, I, D>, NoMemory>
-        requires { 2 ≤ rows_at_once }
+        requires rows { 2 ≤ rows_at_once }
+        requires sources { AreSources parts.now.entries range sources.now }
         ensures { IfOk result (λ rows. rows ≡
             as_read D.is_back (rows_where (within range) (content parts.now.entries))) }
     {
         content_follows();
-        let mut others = heads_of::<D, I>(alloc, parts, range, rows_at_once)?;
+        let mut others = heads_of::<D, I>(alloc, parts, range, sources, rows_at_once)?;
         let first = pop_first(&mut others);
         Ok(Cursor {
             parts,

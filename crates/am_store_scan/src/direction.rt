@@ -3,7 +3,7 @@
 ghost use Rattle.std.specs.Prelude.{◌≡◌, ◌<◌, ◌≤◌, ◌++◌, length, take, true, vec_capacity, OnOk, OnErr};
 ghost use Rattle.am_record.specs.Interval.{within};
 ghost use Rattle.am_index.specs.Content.{rows_in};
-ghost use Rattle.am_store_scan.specs.Directions.{order_in, as_read, rest_of};
+ghost use Rattle.am_store_scan.specs.Directions.{order_in, as_read, rest_of, BeginsAs};
 
 use am_index::{Hint, PartIndex};
 use am_index_parts::Parts;
@@ -28,6 +28,11 @@ pub trait Direction {
 
     /// The key of a range with which it is begun.
     fn first_key(range: Range) -> Key;
+
+    /// A range of that one's keys which is begun with the same one, and in which runs that stand apart have `max` live
+    /// entries or more; the range itself, where they don't have so many.
+    fn piece<I: PartIndex + Drop>(parts: &Parts<I>, range: Range, max: u64) -> Range
+        ensures { BeginsAs is_back range result };
 
     /// Appends the live records of the partition in the range, as they are read, until there are `max` rows. The
     /// caller sees to it that there are no more than these. No memory is taken where there is room for `max` rows. The
@@ -76,6 +81,10 @@ impl Direction for Forward {
         range.lo()
     }
 
+    fn piece<I: PartIndex + Drop>(parts: &Parts<I>, range: Range, max: u64) -> Range {
+        parts.first_piece(range, max)
+    }
+
     fn copy_rows<I: PartIndex + Drop>(
         parts: &Parts<I>,
         part: u32,
@@ -106,6 +115,10 @@ impl Direction for Back {
 
     fn first_key(range: Range) -> Key {
         range.hi()
+    }
+
+    fn piece<I: PartIndex + Drop>(parts: &Parts<I>, range: Range, max: u64) -> Range {
+        parts.last_piece(range, max)
     }
 
     fn copy_rows<I: PartIndex + Drop>(

@@ -4,22 +4,20 @@ ghost use Rattle.std.specs.Prelude.{◌≤◌, ◌∷◌, IfOk, Some};
 ghost use Rattle.std.specs.List.{cons_option};
 ghost use Rattle.std.specs.List.Sorted.{IsPermutation};
 ghost use Rattle.std.specs.BinaryHeap.{heap_items, IsHeap};
-ghost use Rattle.am_index_parts.specs.Partitions.{AreWellFormed};
 ghost use Rattle.am_store_scan.specs.Heads.{head_cmp};
-ghost use Rattle.am_store_scan.specs.Cursors.{AreAllHeads, IsFirstBeside};
+ghost use Rattle.am_store_scan.specs.Cursors.{AreSources, AreAllHeads, IsFirstBeside};
 
-use crate::ahead::Ahead;
 use crate::direction::Direction;
 use crate::head::Head;
-use am_index::PartIndex;
+use am_index::{Hint, PLACES_AT_ONCE, PartIndex};
 use am_index_parts::Parts;
 use am_record::{NoMemory, Range};
 use std::alloc::Global;
 use std::collections::BinaryHeap;
 use std::mem;
 
-/// The heads of all partitions that have a record in the range, each at the one that is read first. They read so
-/// many rows at once.
+/// The heads of those of the partitions that have a record in the range, each at the one that is read first. They
+/// read so many rows at once.
 ///
 /// # Errors
 /// NoMemory, where memory was refused.
@@ -27,27 +25,25 @@ pub(crate) fn heads_of<D: Direction, I: PartIndex + Drop>(
     alloc: Global,
     parts: &Parts<I>,
     range: Range,
+    sources: &[u32],
     room: usize,
 ) -> Result<BinaryHeap<Head<D>>, NoMemory>
-    requires { 2 ≤ room }
-    ensures heads { IfOk result (λ heads. AreAllHeads D.is_back parts.now.entries range (heap_items heads)) }
-    ensures sound { AreWellFormed parts.now.entries }
+    requires room { 2 ≤ room }
+    requires sources { AreSources parts.now.entries range sources.now }
+    ensures { IfOk result (λ heads. AreAllHeads D.is_back parts.now.entries range (heap_items heads)) }
 {
-    let first_run = parts.first_run(range);
     let mut heads = BinaryHeap::new(alloc);
-    let mut ahead = Ahead::none();
-    let mut from = 0;
-    while let Some(part) = parts.next_part(from) {
-        let hint = ahead.hint(parts, part, first_run, D::first_key(range));
-        let first = Head::<D>::first(alloc, parts, range, part, room, hint)?;
+    let mut hints = [Hint::none(); PLACES_AT_ONCE];
+    for at in 0..sources.len() {
+        let passed = at % PLACES_AT_ONCE;
+        if passed == 0 {
+            // Those of the next ones, looked for side by side, so that the memory of all comes at once.
+            hints = parts.hints_in(&sources[at..], D::first_key(range));
+        }
+        let first = Head::<D>::first(alloc, parts, range, sources[at], room, hints[passed])?;
         if let Some(head) = first {
             heads.push(head)?;
         }
-        let Some(above) = part.checked_add(1) else {
-            break;
-        };
-        // The runs before that one have nothing in the range.
-        from = above.max(first_run);
     }
     Ok(heads)
 }

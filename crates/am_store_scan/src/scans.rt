@@ -5,6 +5,7 @@ ghost use Rattle.am_record.specs.Interval.{within};
 ghost use Rattle.am_record.specs.Plain.{rows_where, scan_rows, scan_back_rows};
 ghost use Rattle.am_index.specs.Content.{content, LivesInOne};
 ghost use Rattle.am_index_parts.specs.Partitions.{AreWellFormed};
+ghost use Rattle.am_store_scan.specs.Cursors.{AreSources};
 ghost use Rattle.am_store_scan.specs.Directions.{as_read};
 
 use crate::Cursor;
@@ -57,7 +58,8 @@ pub fn scan_back<I: PartIndex + Drop>(
     read_rows::<Back, I>(alloc, parts, range, max)
 }
 
-// The first `max` records of the range, as they are read in a direction.
+// The first `max` records of the range, as they are read in a direction. Where runs stand apart, those of a piece that
+// has enough of them are read, and else of the whole.
 fn read_rows<D: Direction, I: PartIndex + Drop>(
     alloc: Global,
     parts: &Parts<I>,
@@ -67,10 +69,48 @@ fn read_rows<D: Direction, I: PartIndex + Drop>(
     ensures { IfOk result (λ rows. rows.items ≡
         take max (as_read D.is_back (rows_where (within range) (content parts.now.entries)))) }
 {
+    if let Some(part) = only_part(parts, range) {
+        return copy_rows::<D, I>(alloc, parts, part, range, max);
+    }
+    let piece = D::piece(parts, range, max);
+    let rows = read_piece::<D, I>(alloc, parts, piece, max)?;
+    if rows.len() as u64 == max || piece == range {
+        return Ok(rows);
+    }
+    read_piece::<D, I>(alloc, parts, range, max)
+}
+
+// The same of all partitions in which something may stand in the range.
+fn read_piece<D: Direction, I: PartIndex + Drop>(
+    alloc: Global,
+    parts: &Parts<I>,
+    range: Range,
+    max: u64,
+) -> Result<Vec<(Key, Value)>, NoMemory>
+    ensures { IfOk result (λ rows. rows.items ≡
+        take max (as_read D.is_back (rows_where (within range) (content parts.now.entries)))) }
+{
+    let sources = parts.parts_in(alloc, range)?;
+    if sources.len() == 1 {
+        return copy_rows::<D, I>(alloc, parts, sources[0], range, max);
+    }
+    merge_rows::<D, I>(alloc, parts, range, &sources, max)
+}
+
+// The same of one partition, where all of the range stands in it: copied from its leaves.
+fn copy_rows<D: Direction, I: PartIndex + Drop>(
+    alloc: Global,
+    parts: &Parts<I>,
+    part: u32,
+    range: Range,
+    max: u64,
+) -> Result<Vec<(Key, Value)>, NoMemory>
+    requires only { LivesInOne parts.now.entries part range }
+    requires sound { AreWellFormed parts.now.entries }
+    ensures { IfOk result (λ rows. rows.items ≡
+        take max (as_read D.is_back (rows_where (within range) (content parts.now.entries)))) }
+{
     rows_follow();
-    let Some(part) = only_part(parts, range) else {
-        return merge_rows::<D, I>(alloc, parts, range, max);
-    };
     let mut rows = Vec::new(alloc);
     D::copy_rows(parts, part, range, max, &mut rows, Hint::none())?;
     Ok(rows)
@@ -90,18 +130,20 @@ fn only_part<I: PartIndex + Drop>(parts: &Parts<I>, range: Range) -> Option<u32>
     Some(part)
 }
 
-// The same by a cursor, until one partition is left.
+// The same of several by a cursor, until one partition is left.
 fn merge_rows<D: Direction, I: PartIndex + Drop>(
     alloc: Global,
     parts: &Parts<I>,
     range: Range,
+    sources: &[u32],
     max: u64,
 ) -> Result<Vec<(Key, Value)>, NoMemory>
+    requires { AreSources parts.now.entries range sources.now }
     ensures { IfOk result (λ rows. rows.items ≡
         take max (as_read D.is_back (rows_where (within range) (content parts.now.entries)))) }
 {
-    let rows_at_once = rows_at_once(parts, range, max);
-    let mut cursor = Cursor::<I, D>::open_for(alloc, parts, range, rows_at_once)?;
+    let rows_at_once = rows_at_once(sources.len(), max);
+    let mut cursor = Cursor::<I, D>::open_for(alloc, parts, range, sources, rows_at_once)?;
     take_rows(alloc, &mut cursor, max)
 }
 
@@ -127,34 +169,14 @@ fn take_rows<D: Direction, I: PartIndex + Drop>(
     Ok(rows)
 }
 
-// How many rows of each partition are to be read at once: a partition's share of those that are asked for, and some
-// more, since the shares are not alike. To read on costs a descent of the tree, and a row that is read in vain its
-// lines of memory.
-fn rows_at_once<I: PartIndex + Drop>(parts: &Parts<I>, range: Range, max: u64) -> usize
+// How many rows of each of so many partitions are to be read at once: a partition's share of those that are asked for,
+// and some more, since the shares are not alike. To read on costs a descent of the tree, and a row that is read in vain
+// its lines of memory.
+fn rows_at_once(partitions: usize, max: u64) -> usize
     ensures { 2 ≤ result }
 {
     let wanted = max.min(MOST_WANTED);
-    let share = (wanted + wanted / 4) / partitions(parts, range, 2 * wanted);
+    let share = (wanted + wanted / 4) / (partitions as u64).max(1);
     let rows = (share + 2).min(wanted + 1);
     rows.min(MOST_AT_ONCE).max(2) as usize
-}
-
-// How many partitions may have something in the range, counted up to so many.
-fn partitions<I: PartIndex + Drop>(parts: &Parts<I>, range: Range, most: u64) -> u64
-    ensures { 0 < result }
-{
-    let first_run = parts.first_run(range);
-    let mut count = 0;
-    let mut from = 0;
-    while let Some(part) = parts.next_part(from) {
-        if count >= most {
-            break;
-        }
-        let Some(above) = part.checked_add(1) else {
-            break;
-        };
-        count += 1;
-        from = above.max(first_run);
-    }
-    count.max(1)
 }

@@ -1,9 +1,11 @@
 //! Loads over a list.
 
-ghost use Rattle.std.specs.Prelude.{IfOk};
+ghost use Rattle.std.specs.Prelude.{◌≡◌, true, IfOk};
+ghost use Rattle.am_record.specs.Plain.{is_rising};
 ghost use Rattle.am_index.specs.Runs.{NothingAbove};
 
 use crate::fault::{Fault, expect, expect_unchanged};
+use am_index::{Listed, RecordSource};
 use am_index_list::ListIndex;
 use am_index_parts::Parts;
 use am_record::{Entry, HashKey, Key, NoMemory, Records, Refusal, Reply, Value};
@@ -74,31 +76,38 @@ fn has_just(parts: &Parts<ListIndex>, runs: &[Run]) -> bool {
     next.is_none() && parts.runs() as usize == runs.len()
 }
 
-// Loads the run. What is refused memory is loaded again.
-fn load_run(parts: &mut Parts<ListIndex>, run: &Run, before: &[Run]) -> Result<(), Fault>
-    requires { NothingAbove parts.old.runs parts.old.entries }
+// Loads a run of these records, which rise. What is refused memory is loaded again.
+fn load_run<S: RecordSource>(
+    parts: &mut Parts<ListIndex>,
+    records: &S,
+    before: &[Run],
+) -> Result<(), Fault>
+    requires above { NothingAbove parts.old.runs parts.old.entries }
+    requires rising { is_rising (S.records records.now) ≡ true }
     ensures { NothingAbove parts.new.runs parts.new.entries }
 {
-    let mut reply = load(parts, run);
+    let mut reply = load(parts, records);
     if reply == Reply::Refused(Refusal::NoMemory) {
         expect_unchanged(has_just(parts, before))?;
-        reply = load(parts, run);
+        reply = load(parts, records);
     }
     expect(reply == Reply::Done)
 }
 
-// The run that is next. Where memory is refused it is still to come.
-fn next_run(alloc: Global, cut: &mut Cut<'_, Records>) -> Result<Run, Fault> {
-    if let Ok(run) = cut.next(alloc) {
-        return run.ok_or(Fault::Differs);
+// A copy of the run that is next. Where memory is refused it is still to come.
+fn next_run(alloc: Global, cut: &Cut<'_, Records>) -> Result<Run, Fault> {
+    let run = cut.run().ok_or(Fault::Differs)?;
+    if let Ok(copy) = run.to_run(alloc) {
+        return Ok(copy);
     }
-    cut.next(alloc)?.ok_or(Fault::Differs)
+    Ok(run.to_run(alloc)?)
 }
 
-// The next run is put after those that came.
+// A copy of the next run is put after those that came.
 fn take_run(alloc: Global, cut: &mut Cut<'_, Records>, runs: &mut Vec<Run>) -> Result<(), Fault> {
     let run = next_run(alloc, cut)?;
     push_to(runs, run)?;
+    cut.pass();
     Ok(())
 }
 
@@ -116,7 +125,7 @@ fn runs_of(alloc: Global, records: &Records) -> Result<Vec<Run>, Fault> {
     let mut runs = Vec::new(alloc);
     take_run(alloc, &mut cut, &mut runs)?;
     take_run(alloc, &mut cut, &mut runs)?;
-    expect(matches!(cut.next(alloc), Ok(None)))?;
+    expect(cut.run().is_none())?;
     Ok(runs)
 }
 
@@ -142,24 +151,44 @@ fn are_alike(runs: &[Run], again: &[Run]) -> Result<(), Fault> {
     expect(runs[0].records() == again[0].records() && runs[1].records() == again[1].records())
 }
 
-// Loads both runs.
-fn load_in_turn(parts: &mut Parts<ListIndex>, runs: &[Run]) -> Result<(), Fault>
+// Loads the run of the cut that comes next, where it lies.
+fn load_next(
+    parts: &mut Parts<ListIndex>,
+    cut: &mut Cut<'_, Records>,
+    before: &[Run],
+) -> Result<(), Fault>
     requires { NothingAbove parts.old.runs parts.old.entries }
     ensures { NothingAbove parts.new.runs parts.new.entries }
 {
-    let [first, second] = runs else {
-        return Err(Fault::Differs);
-    };
-    load_run(parts, first, &[])?;
-    load_run(parts, second, &runs[..1])
+    let run = cut.run().ok_or(Fault::Differs)?;
+    load_run(parts, &run, before)?;
+    cut.pass();
+    Ok(())
 }
 
-// Loads both runs into a list that has no entries.
-fn load_both(alloc: Global, runs: &[Run]) -> Result<Parts<ListIndex>, Fault>
+// Loads both runs of a cut.
+fn load_in_turn(
+    parts: &mut Parts<ListIndex>,
+    cut: &mut Cut<'_, Records>,
+    runs: &[Run],
+) -> Result<(), Fault>
+    requires { NothingAbove parts.old.runs parts.old.entries }
+    ensures { NothingAbove parts.new.runs parts.new.entries }
+{
+    let [_, _] = runs else {
+        return Err(Fault::Differs);
+    };
+    load_next(parts, cut, &[])?;
+    load_next(parts, cut, &runs[..1])
+}
+
+// Loads both runs of the records into a list that has no entries.
+fn load_both(alloc: Global, records: &Records, runs: &[Run]) -> Result<Parts<ListIndex>, Fault>
     ensures { IfOk result (λ parts. NothingAbove parts.runs parts.entries) }
 {
     let mut parts = Parts::new(alloc, ListIndex::new(alloc), HashKey::known());
-    load_in_turn(&mut parts, runs)?;
+    let mut cut = cut_of(alloc, records)?;
+    load_in_turn(&mut parts, &mut cut, runs)?;
     expect(has_just(&parts, runs))?;
     Ok(parts)
 }
@@ -169,14 +198,15 @@ fn refuses(parts: &mut Parts<ListIndex>, all: &Run) -> Result<(), Fault>
     requires { NothingAbove parts.old.runs parts.old.entries }
 {
     expect(all.records().len() == 40)?;
-    expect(load(parts, all) == Reply::Exists(all.records()[0].0))
+    let records = all.records();
+    expect(load(parts, &Listed { records }) == Reply::Exists(records[0].0))
 }
 
 // Cuts the records into the same runs at once, and loads these. Then a run of all records is refused.
-fn load_runs(alloc: Global, records: &[(Key, Value)], runs: &[Run]) -> Result<(), Fault> {
-    are_alike(runs, &all_runs_of(alloc, records)?)?;
-    let all = run_of_all(alloc, records)?;
-    let mut parts = load_both(alloc, runs)?;
+fn load_runs(alloc: Global, records: &Records, runs: &[Run]) -> Result<(), Fault> {
+    are_alike(runs, &all_runs_of(alloc, records.as_slice())?)?;
+    let all = run_of_all(alloc, records.as_slice())?;
+    let mut parts = load_both(alloc, records, runs)?;
     refuses(&mut parts, &all)?;
     expect(has_just(&parts, runs))
 }
@@ -185,5 +215,5 @@ fn load_runs(alloc: Global, records: &[(Key, Value)], runs: &[Run]) -> Result<()
 pub(crate) fn loads_of_a_list(alloc: Global) -> Result<(), Fault> {
     let records = Records::new(records_in_no_order(alloc)?);
     let runs = runs_of(alloc, &records)?;
-    load_runs(alloc, records.as_slice(), &runs)
+    load_runs(alloc, &records, &runs)
 }

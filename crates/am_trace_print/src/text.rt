@@ -3,23 +3,26 @@
 ghost use Rattle.std.specs.Prelude.{◌≡◌, IfOk};
 ghost use Rattle.am_trace_text.specs.Lines.{CanBeStored, IsTextOf, event_lines, trace_text};
 ghost use Rattle.am_trace_text.specs.Versions.{version_needed};
+ghost use Rattle.am_trace_text.specs.declared.header.Header.TheVariants.{Profile};
 
 use crate::print::Page;
 use am_record::{NoMemory, Reply, Step};
-use am_trace_text::Version;
+use am_trace_text::{Header, Version};
 use std::alloc::Global;
 
-/// The text of a trace, in the version that it needs: the second, where that can write it, and else the third.
+/// The text of a trace of a store with the profile's limits, in the version that it needs: the second, where that can
+/// write it, and else the third.
 ///
 /// # Errors
 /// NoMemory, where memory was refused.
 #[inline(never)]
 pub fn trace_text(alloc: Global, trace: &[(Step, Reply)]) -> Result<Vec<u8>, NoMemory>
-    ensures text { IfOk result (λ text. text.items ≡ trace_text (version_needed trace.now) trace.now) }
+    ensures text { IfOk result (λ text. text.items ≡ trace_text (Profile (version_needed trace.now)) trace.now) }
     ensures whole { IfOk result (λ text. CanBeStored trace.now → IsTextOf text.items trace.now) }
 {
     let mut page = Page::new(alloc);
-    page.put(Version::for_trace(trace).header())?;
+    let header = Header::Profile(Version::for_trace(trace));
+    page.put(header.line().as_slice())?;
     for event in trace {
         page.put_event(&event.0, &event.1)?;
     }

@@ -8,6 +8,7 @@
 mod cut;
 mod event;
 mod front;
+mod header;
 mod lanes;
 mod line;
 mod read_reply;
@@ -17,5 +18,6 @@ mod text;
 mod word;
 
 pub use front::front_event;
+pub use header::read_header;
 pub use line::read_by_fields;
-pub use text::{TraceFault, read_header, read_line, read_trace};
+pub use text::{TraceFault, read_line, read_trace};

@@ -59,7 +59,8 @@ pub(crate) fn number(field: &[u8]) -> Option<u64>
     parse_number(field).ok().flatten()
 }
 
-fn run(field: &[u8]) -> Option<u32>
+/// The number of a run, or of runs.
+pub(crate) fn run(field: &[u8]) -> Option<u32>
     ensures { result ≡ run_in field.now }
 {
     u32::try_from(number(field)?).ok()
@@ -136,8 +137,8 @@ fn one<'a>(mut fields: Fields<'a>) -> Option<&'a [u8]>
     Some(field)
 }
 
-// The two fields, where there are just two.
-fn two<'a>(mut fields: Fields<'a>) -> Option<(&'a [u8], &'a [u8])>
+/// The two fields, where there are just two.
+pub(crate) fn two<'a>(mut fields: Fields<'a>) -> Option<(&'a [u8], &'a [u8])>
     ensures { option_map (λ p. (p.0.now, p.1.now)) result ≡ two_of fields.entry }
 {
     let first = next(&mut fields)?;

@@ -1,10 +1,10 @@
 //! The whole text, and one line of it.
 
-ghost use Rattle.std.specs.Prelude.{◌≡◌, ◌++◌, ℕ, IfOk, IfSome, IfNone, Err};
-ghost use Rattle.am_trace_text.specs.Lines.{IsEvent, event_words, with_lf, header, IsTextOf};
-ghost use Rattle.am_trace_text.specs.Lines.{IsBadLine, BeginsNoEvent, BeginsNoHeader};
+ghost use Rattle.std.specs.Prelude.{◌≡◌, ◌++◌, ℕ, IfOk, Err};
+ghost use Rattle.am_trace_text.specs.Lines.{IsEvent, event_words, with_lf, IsTextOf, IsBadLine, BeginsNoEvent};
 
 use crate::front::front_event;
+use crate::header::read_header;
 use crate::line::read_by_fields;
 use am_record::{Reply, Step};
 use am_trace_text::{ReadFault, Version};
@@ -31,10 +31,10 @@ pub fn read_trace(alloc: Global, text: &[u8]) -> Result<Vec<(Step, Reply)>, Trac
     ensures trace { IfOk result (λ trace. IsTextOf text.now trace.items) }
     ensures bad { (n : ℕ) → result ≡ Err (TraceFault.Bad n) → IsBadLine text.now n }
 {
-    let (version, mut rest) = read_header(text).ok_or(TraceFault::Bad(1))?;
+    let (header, mut rest) = read_header(text).ok_or(TraceFault::Bad(1))?;
     let mut trace = Vec::new(alloc);
     'lines: while !rest.is_empty() {
-        match read_line(alloc, version, rest) {
+        match read_line(alloc, header.version(), rest) {
             Ok((event, further)) => {
                 if trace.push(event).is_err() {
                     return Err(TraceFault::NoMemory);
@@ -68,19 +68,4 @@ pub fn read_line(
         }
     }
     read_by_fields(alloc, version, text)
-}
-
-/// The version that the header names, and what stands after the header.
-pub fn read_header(text: &[u8]) -> Option<(Version, &[u8])>
-    ensures some { IfSome result (λ p. text.now ≡ header p.0 ++ p.1.now) }
-    ensures none { IfNone result (BeginsNoHeader text.now) }
-{
-    if let Some(rest) = text.strip_prefix(Version::One.header()) {
-        return Some((Version::One, rest));
-    }
-    if let Some(rest) = text.strip_prefix(Version::Two.header()) {
-        return Some((Version::Two, rest));
-    }
-    let rest = text.strip_prefix(Version::Three.header())?;
-    Some((Version::Three, rest))
 }

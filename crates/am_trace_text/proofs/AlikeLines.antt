@@ -1,6 +1,5 @@
 -- All versions but the first write events alike, and the third writes more of them.
-use Rattle.std.proofs.Common.{◌≡◌, ◌≢◌, ◌↔◌, ◌++◌, ℕ, Bool, true, false, List, [], ◌∷◌, codes, decimal, refl, sym, ap}
-use Rattle.std.specs.Prelude.{if◌then◌else◌}
+use Rattle.std.proofs.Common.{◌≡◌, ◌≢◌, ◌↔◌, ◌++◌, ℕ, true, false, List, [], ◌∷◌, codes, decimal, refl, sym, ap}
 use Rattle.std.specs.List.{join_with_byte, list_any}
 use Rattle.std.proofs.lemmas.Bool.{cond_both, cond-false, or_from, or_parts, true≢false}
 use Rattle.am_record.specs.Events.{Event}
@@ -16,8 +15,11 @@ use Rattle.am_trace_text.specs.Replies.{reply_fields, IsReply}
 use Rattle.am_trace_text.specs.Steps.{argument_fields, step_fields, verb_of, IsOp, IsStep}
 use Rattle.am_trace_text.specs.Versions.{op_needs_three, step_needs_three, reply_needs_three, needs_three}
 use Rattle.am_trace_text.specs.Versions.{version_needed}
+use Rattle.am_trace_text.specs.Headers.{can_be_given}
 use Rattle.am_trace_text.specs.declared.version.Version.{Version}
 use Rattle.am_trace_text.specs.declared.version.Version.TheVariants.{One, Two, Three}
+use Rattle.am_trace_text.specs.declared.store_limits.StoreLimits.{StoreLimits}
+use Rattle.am_trace_text.specs.declared.header.Header.TheVariants.{Profile, Limits}
 
 -- ---- their words
 
@@ -96,8 +98,19 @@ needed trace h = cond_both (list_any needs_three trace) Three Two (λ v. AreEven
 pub second : (trace : List Event) → AreEvents Two trace → version_needed trace ≡ Two
 second trace h = cond-false (list_any needs_three trace) Three Two (none_needs trace h)
 
-pub is_text : (trace : List Event) → AreEvents Three trace → IsTextOf (trace_text (version_needed trace) trace) trace
-is_text trace h = record { version = version_needed trace; events = needed trace h; spelled = refl }
+pub is_text : (trace : List Event) → AreEvents Three trace →
+    IsTextOf (trace_text (Profile (version_needed trace)) trace) trace
+is_text trace h = record {
+  header = Profile (version_needed trace);
+  fits = tt;
+  events = needed trace h;
+  spelled = refl;
+}
+
+pub is_text_with_limits : (limits : StoreLimits) (trace : List Event) → can_be_given limits ≡ true →
+    AreEvents Three trace → IsTextOf (trace_text (Limits limits) trace) trace
+is_text_with_limits limits trace given h =
+    record { header = Limits limits; fits = given; events = h; spelled = refl }
 
 pub lines_needed : (trace : List Event) → event_lines (version_needed trace) trace ≡ event_lines Three trace
 lines_needed trace = cond_both (list_any needs_three trace) Three Two

@@ -77,7 +77,7 @@ module _ (laws : WordLaws) (c : ℕ) (n : IsNoDigit c) (other : eqb 61 c ≡ fal
   reply_none v reply.NoMark h = (letters (codes "NOMARK") refl, tt)
   reply_none v (reply.Refused why) h = refusal_none why h
 
-  join_none : (fs : List (List ℕ)) → eqb 32 c ≡ false → AllHaveNo c fs → has_no c (join_with_byte 32 fs) ≡ true
+  pub join_none : (fs : List (List ℕ)) → eqb 32 c ≡ false → AllHaveNo c fs → has_no c (join_with_byte 32 fs) ≡ true
   join_none [] e h = refl
   join_none (f ∷ []) e h = h.0
   join_none (f ∷ g ∷ fs) e h =
@@ -94,7 +94,7 @@ pub record LineLaws : Type 0 where
   pub line : (line : List ℕ) → join_with_byte 32 (line_fields line) ≡ line
 
 module _ (laws : LineLaws) where
-  parted_by : (fs : List (List ℕ)) (f : List ℕ) (gs : List (List ℕ)) → fs ≡ f ∷ gs → AllHaveNo 32 fs →
+  pub parted_by : (fs : List (List ℕ)) (f : List ℕ) (gs : List (List ℕ)) → fs ≡ f ∷ gs → AllHaveNo 32 fs →
       line_fields (join_with_byte 32 fs) ≡ fs
   parted_by fs f gs e h =
       let parts = subst (AllHaveNo 32) e h in

@@ -6,5 +6,6 @@ pub mod StepTexts
 pub mod WordTexts
 pub mod ReplyTexts
 pub mod EventTexts
+pub mod HeaderTexts
 pub mod AlikeLines
 pub mod DigitTable

@@ -6,8 +6,10 @@ use Rattle.std.proofs.Math.Seq.{drop-cons}
 use Rattle.am_record.specs.declared.step.Reply.TheVariants.{Refused}
 use Rattle.am_record.specs.declared.step.Refusal.TheVariants.{SeatFull}
 use Rattle.am_record.specs.Events.{Event}
-use Rattle.am_trace_text.specs.Lines.{IsEvent, AreEvents, CanBeStored, event_words, event_lines, with_lf, header}
-use Rattle.am_trace_text.specs.Lines.{trace_text}
+use Rattle.am_trace_text.specs.Lines.{IsEvent, AreEvents, CanBeStored, event_words, event_lines, with_lf}
+use Rattle.am_trace_text.specs.Lines.{header_line, trace_text}
+use Rattle.am_trace_text.specs.Headers.{line_version}
+use Rattle.am_trace_text.specs.declared.header.Header.{Header}
 use Rattle.am_trace_text.specs.declared.version.Version.{Version}
 
 pub written_line : (v : Version) (page new text : List ℕ) (trace : List Event) (i n : ℕ) (e : Event) → n ≡ suc i →
@@ -56,13 +58,14 @@ lines_behind v (f ∷ trace) e = ap (λ x. with_lf (event_words v f) ++ x) (line
     sym (append_assoc (with_lf (event_words v f)) (event_lines v trace) (with_lf (event_words v e)))
 
 -- one line more was read
-pub read_line : (v : Version) (text rest line further : List ℕ) (trace : List Event) (e : Event) →
-    text ≡ trace_text v trace ++ rest → rest ≡ line ++ 10 ∷ further → line ≡ event_words v e →
-    text ≡ trace_text v (trace ++ e ∷ []) ++ further
-read_line v text rest line further trace e h cut is =
+pub read_line : (h : Header) (text rest line further : List ℕ) (trace : List Event) (e : Event) →
+    text ≡ trace_text h trace ++ rest → rest ≡ line ++ 10 ∷ further → line ≡ event_words (line_version h) e →
+    text ≡ trace_text h (trace ++ e ∷ []) ++ further
+read_line h text rest line further trace e before cut is =
+    let v = line_version h in
     let ends : rest ≡ with_lf (event_words v e) ++ further = cut ∙ ap (λ x. x ++ 10 ∷ further) is ∙
     sym (append_assoc (event_words v e) (10 ∷ []) further) in
-    h ∙ ap (λ x. trace_text v trace ++ x) ends
-    ∙ sym (append_assoc (trace_text v trace) (with_lf (event_words v e)) further)
-    ∙ ap (λ x. x ++ further) (append_assoc (header v) (event_lines v trace) (with_lf (event_words v e)) ∙
-    ap (λ x. header v ++ x) (sym (lines_behind v trace e)))
+    before ∙ ap (λ x. trace_text h trace ++ x) ends
+    ∙ sym (append_assoc (trace_text h trace) (with_lf (event_words v e)) further)
+    ∙ ap (λ x. x ++ further) (append_assoc (header_line h) (event_lines v trace) (with_lf (event_words v e)) ∙
+    ap (λ x. header_line h ++ x) (sym (lines_behind v trace e)))

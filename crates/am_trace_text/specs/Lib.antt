@@ -3,6 +3,7 @@ pub mod Words
 pub mod Bounds
 pub mod Versions
 pub mod FieldReadings
+pub mod Headers
 pub mod Steps
 pub mod Replies
 pub mod Lines

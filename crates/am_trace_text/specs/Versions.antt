@@ -1,7 +1,6 @@
--- What the version of a trace's text says of its store, and which version a trace needs.
-use Rattle.std.specs.Prelude.{ℕ, List, Bool, true, false, ◌||◌, if◌then◌else◌}
+-- Which version a trace needs.
+use Rattle.std.specs.Prelude.{List, Bool, true, false, ◌||◌, if◌then◌else◌}
 use Rattle.std.specs.List.{list_any}
-use Rattle.am_record.specs.Limits.{last_run, max_runs}
 use Rattle.am_record.specs.Events.{Event}
 use Rattle.am_record.specs.declared.step.Op.{Op}
 use Rattle.am_record.specs.declared.step.Op.TheVariants.{ScanBack, Set, DeleteRange, Put}
@@ -11,11 +10,6 @@ use Rattle.am_record.specs.declared.step.Reply.{Reply}
 use Rattle.am_record.specs.declared.step.Reply.TheVariants.{Deleted}
 use Rattle.am_trace_text.specs.declared.version.Version.{Version}
 use Rattle.am_trace_text.specs.declared.version.Version.TheVariants.{Two, Three}
-
--- how many runs the store makes at most
-abbrev pub most_runs_of : Version → ℕ
-most_runs_of Three = last_run
-most_runs_of _ = max_runs
 
 -- whether version 3 alone writes the operation
 abbrev pub op_needs_three : Op → Bool

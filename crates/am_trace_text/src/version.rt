@@ -1,20 +1,18 @@
 //! The versions of the text.
 
 ghost use Rattle.std.specs.Prelude.{◌≡◌};
-ghost use Rattle.am_trace_text.specs.Lines.{header};
-ghost use Rattle.am_trace_text.specs.Versions.{most_runs_of, op_needs_three, needs_three, version_needed};
+ghost use Rattle.am_trace_text.specs.Versions.{op_needs_three, needs_three, version_needed};
 
-use am_record::{LAST_RUN, MAX_RUNS, Op, Reply, Step};
+use am_record::{Op, Reply, Step};
 
-/// The version of a trace's text.
+/// The version of a trace's lines. It says nothing of the store's limits.
 #[derive(Clone, Copy, Debug, PartialEq, Eq)]
 pub enum Version {
     /// Keys are numbers, and there are no savepoints. It is read, and not written any more.
     One,
     /// Keys are strings of bytes.
     Two,
-    /// The lines of version 2 and those of Set, ScanBack, DeleteRange and Put, of a store that makes runs as long as
-    /// they have numbers.
+    /// The lines of version 2, and those of Set, ScanBack, DeleteRange and Put.
     Three,
 }
 
@@ -27,27 +25,6 @@ impl Version {
             Version::Three
         } else {
             Version::Two
-        }
-    }
-
-    /// The first line of a text.
-    pub fn header(self) -> &'static [u8]
-        ensures { result.now ≡ header self }
-    {
-        match self {
-            Version::One => b"TRACE 1\n",
-            Version::Two => b"TRACE 2\n",
-            Version::Three => b"TRACE 3\n",
-        }
-    }
-
-    /// How many runs the store of the trace makes at most.
-    pub fn most_runs(self) -> u32
-        ensures { result ≡ most_runs_of self }
-    {
-        match self {
-            Version::One | Version::Two => MAX_RUNS,
-            Version::Three => LAST_RUN,
         }
     }
 }

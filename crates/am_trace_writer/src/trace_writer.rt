@@ -2,7 +2,8 @@
 
 ghost use Rattle.std.specs.Prelude.{◌≡◌, ◌≢◌, ◌+◌, ◌^◌, ◌<◌, false, MatchBool, if◌then◌else◌};
 ghost use Rattle.am_line_sink.specs.SinkWrites.{Gave, GaveBeginning};
-ghost use Rattle.am_trace_text.specs.Lines.{header};
+ghost use Rattle.am_trace_text.specs.Headers.{line_version};
+ghost use Rattle.am_trace_text.specs.Lines.{header_line};
 ghost use Rattle.std.specs.List.{list_any};
 ghost use Rattle.am_trace_text.specs.Versions.{needs_three};
 ghost use Rattle.am_trace_writer.specs.Writers.{TookLines};
@@ -11,15 +12,15 @@ use crate::pieces::PieceTaker;
 use am_line_sink::{Sink, give_all};
 use am_record::{Reply, Step};
 use am_trace_print::event_lines;
-use am_trace_text::{Version, needs_three};
+use am_trace_text::{Header, Version, needs_three};
 use std::alloc::Global;
 
 /// How many events are written at once: some 1 MB, where they have no long lists of records.
 const EVENTS_AT_ONCE: usize = 16_384;
 
-/// Writes a trace to a sink: at first the line that names its version, 2 or 3, and then the lines of its events as they
-/// come, which both versions have alike as far as both have them. Where the sink fails, or memory is refused, the trace
-/// is cut there: nothing more is written.
+/// Writes a trace to a sink: at first the line that names its version, 2 or 3, or its store's limits, and then the
+/// lines of its events as they come, which both versions have alike as far as both have them. Where the sink fails, or
+/// memory is refused, the trace is cut there: nothing more is written.
 #[derive(Drop)]
 pub struct TraceWriter<K: Sink + Drop> {
     sink: K,
@@ -32,16 +33,16 @@ pub struct TraceWriter<K: Sink + Drop> {
 
 impl<K: Sink + Drop> TraceWriter<K> {
     /// Writes the first line. Where the sink fails, the trace is cut there.
-    pub fn begin(alloc: Global, sink: K, version: Version) -> TraceWriter<K>
+    pub fn begin(alloc: Global, sink: K, header: Header) -> TraceWriter<K>
         requires countable { K.failures sink < 2 ^ 63 }
-        requires written { version ≢ Version.One }
-        ensures begun { MatchBool result.is_cut (GaveBeginning K.holds sink (header version) result.sink)
-            (Gave K.holds sink (header version) result.sink) }
+        requires written { line_version header ≢ Version.One }
+        ensures begun { MatchBool result.is_cut (GaveBeginning K.holds sink (header_line header) result.sink)
+            (Gave K.holds sink (header_line header) result.sink) }
         ensures taken { result.needs_three ≡ false }
         ensures cut { K.failures result.sink ≡ (if result.is_cut then K.failures sink + 1 else K.failures sink) }
     {
         let mut sink = sink;
-        let is_cut = give_all(&mut sink, version.header()).is_err();
+        let is_cut = give_all(&mut sink, header.line().as_slice()).is_err();
         TraceWriter {
             sink,
             is_cut,

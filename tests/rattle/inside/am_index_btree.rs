@@ -1,7 +1,7 @@
 use crate::BTree;
 use crate::node::{Node, Subtree};
 use crate::read::Start;
-use am_index::{Hint, PartIndex};
+use am_index::{Hint, Listed, PartIndex};
 use am_record::{Entry, Key, NoMemory, Value};
 use std::alloc::Global;
 use std::test::Fail;
@@ -191,7 +191,7 @@ fn append(
     if found.is_some() {
         return Ok(());
     }
-    tree.append(alloc, part, pairs)
+    tree.append(alloc, part, &Listed { records: pairs })
 }
 
 // How many entries there are.

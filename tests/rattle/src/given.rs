@@ -37,11 +37,9 @@ fn records_of_c_are_read_where_they_lie(rt: HostRuntime) -> Result<(), Fail> {
     for at in 0..3 {
         assert!(rt; given.key(at) == due[at].0 && given.get(at) == due[at]);
     }
-    let mut runs = cut_source(rt.alloc(), &given, 3).ok().expect(&rt, "memory");
-    let run = runs.next(rt.alloc());
-    assert!(rt;
-        matches!(&run, Ok(Some(run)) if run.records() == [due[2], due[1], due[0]].as_slice())
-    );
+    let runs = cut_source(rt.alloc(), &given, 3).ok().expect(&rt, "memory");
+    let run = runs.run().expect(&rt, "a run").to_run(rt.alloc());
+    assert!(rt; matches!(&run, Ok(run) if run.records() == [due[2], due[1], due[0]].as_slice()));
     // The first that isn't one is told, its key before its value.
     for (records, status) in [
         ([held(b'a', 1, 65), held(b'b', 33, 1)], Status::BadValue),
@@ -84,10 +82,10 @@ fn lines_are_read_where_they_lie(rt: HostRuntime) -> Result<(), Fail> {
     for at in 0..4 {
         assert!(rt; given.key(at) == due[at].0 && given.get(at) == due[at]);
     }
-    let mut runs = cut_source(rt.alloc(), &given, 4).ok().expect(&rt, "memory");
-    let run = runs.next(rt.alloc());
+    let runs = cut_source(rt.alloc(), &given, 4).ok().expect(&rt, "memory");
+    let run = runs.run().expect(&rt, "a run").to_run(rt.alloc());
     assert!(rt;
-        matches!(&run, Ok(Some(run)) if run.records() == [due[1], due[2], due[3], due[0]].as_slice())
+        matches!(&run, Ok(run) if run.records() == [due[1], due[2], due[3], due[0]].as_slice())
     );
     let bad_line = Status::BadLine.code();
     assert!(rt; read(rt.alloc(), b"") == Ok(0));

@@ -1,7 +1,7 @@
 //! Values of each length in a tree, whose leaves have room for short ones at first.
 
 use crate::trees::add;
-use am_index::{Hint, PartIndex};
+use am_index::{Hint, Listed, PartIndex};
 use am_index_btree::BTree;
 use am_record::{Entry, Key, Range, Value};
 use std::alloc::Global;
@@ -146,7 +146,8 @@ fn runs_of_each_length_are_appended_to_short_values(rt: HostRuntime) {
         for usual in LENGTHS {
             for tenth in LENGTHS {
                 let pairs = run_of(&rt, rt.alloc(), usual, tenth);
-                tree.append_run(part, &pairs).expect(&rt, "memory");
+                tree.append_run(part, &Listed { records: &pairs })
+                    .expect(&rt, "memory");
                 assert!(rt;
                     has_run(&rt, rt.alloc(), &tree, part, &pairs),
                     "{usual} {tenth}"

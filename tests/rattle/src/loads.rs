@@ -1,7 +1,7 @@
 //! Runs and their loads.
 
 use crate::entries::{byte, dead, live};
-use am_index::Hint;
+use am_index::{Hint, Listed};
 use am_index_list::ListIndex;
 use am_index_parts::Parts;
 use am_record::{Entry, HashKey, Key, LAST_RUN, MAX_RUNS, NoMemory, Refusal, Reply, Value};
@@ -214,7 +214,8 @@ fn stands(rt: &impl Abort, parts: &Parts<ListIndex>, part: u32, number: u64, val
 
 // The run of the pairs is loaded, and answered so.
 fn loads(rt: &impl Abort, parts: &mut Parts<ListIndex>, run: &Run, reply: Reply) {
-    assert!(rt; load(parts, run) == reply);
+    let records = run.records();
+    assert!(rt; load(parts, &Listed { records }) == reply);
 }
 
 #[test]
@@ -248,7 +249,11 @@ pub(crate) fn loads_all(
         pairs.push(pair(number, b'p')).expect(rt, "memory");
     }
     let run = Run::new(pairs).expect(rt, "they rise");
-    assert!(rt; load(parts, &run) == reply, "from {first} to {last}");
+    let records = run.records();
+    assert!(rt;
+        load(parts, &Listed { records }) == reply,
+        "from {first} to {last}"
+    );
 }
 
 // Seven runs, of which the second and the seventh have entries, as partition 0 has.
@@ -301,6 +306,9 @@ fn a_load_refused_memory_leaves_the_entries(rt: HostRuntime) {
         pairs.push(pair(number, b'a')).expect(&rt, "memory");
     }
     let run = Run::new(pairs).expect(&rt, "they rise");
+    let run = Listed {
+        records: run.records(),
+    };
     let mut reply = load(&mut parts, &run);
     if reply == Reply::Refused(Refusal::NoMemory) {
         assert!(rt; parts.runs() == 0);
@@ -311,7 +319,7 @@ fn a_load_refused_memory_leaves_the_entries(rt: HostRuntime) {
     }
     assert!(rt; reply == Reply::Done);
     assert!(rt; parts.runs() == 1);
-    for pair in run.records() {
+    for pair in run.records {
         assert!(rt; parts.find(1, pair.0) == Some((pair.1, false)));
     }
 }

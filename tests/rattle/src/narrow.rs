@@ -1,6 +1,6 @@
 //! An index that gets room for long values, unless memory is refused.
 
-use am_index::{Batch, Hint, PLACES_AT_ONCE, PartIndex};
+use am_index::{Batch, Hint, PLACES_AT_ONCE, PartIndex, RecordSource};
 use am_index_list::ListIndex;
 use am_record::{Entry, Key, NoMemory, Range, Value};
 use std::alloc::Global;
@@ -40,9 +40,10 @@ impl Narrow {
         Ok(())
     }
 
-    fn get_rooms(&mut self, part: u32, pairs: &[(Key, Value)]) -> Result<(), NoMemory> {
-        for (key, value) in pairs {
-            self.get_room(part, *key, value.len())?;
+    fn get_rooms<S: RecordSource>(&mut self, part: u32, records: &S) -> Result<(), NoMemory> {
+        for at in 0..records.len() {
+            let (key, value) = records.get(at);
+            self.get_room(part, key, value.len())?;
         }
         Ok(())
     }
@@ -131,10 +132,10 @@ impl PartIndex for Narrow {
         count
     }
 
-    fn append_run(&mut self, part: u32, pairs: &[(Key, Value)]) -> Result<(), NoMemory> {
-        let mut appended = self.get_rooms(part, pairs);
+    fn append_run<S: RecordSource>(&mut self, part: u32, records: &S) -> Result<(), NoMemory> {
+        let mut appended = self.get_rooms(part, records);
         if appended.is_ok() {
-            appended = self.index.append_run(part, pairs);
+            appended = self.index.append_run(part, records);
         }
         self.give_up();
         appended

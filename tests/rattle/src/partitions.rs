@@ -1,7 +1,7 @@
 //! Partitions.
 
 use crate::entries::{add, byte, dead, live, over};
-use am_index::{Hint, PartIndex};
+use am_index::{Hint, Listed, PartIndex};
 use am_index_list::ListIndex;
 use am_index_parts::{Parts, RunFault};
 use am_record::{Entry, HashKey, Key};
@@ -88,8 +88,9 @@ fn append(
             .push((Key::of_u64(*key), byte(b'r')))
             .expect(rt, "memory");
     }
-    match parts.append_run(&pairs) {
-        Err(RunFault::NoMemory) => parts.append_run(&pairs),
+    let run = Listed { records: &pairs };
+    match parts.append_run(&run) {
+        Err(RunFault::NoMemory) => parts.append_run(&run),
         answer => answer,
     }
 }

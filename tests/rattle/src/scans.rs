@@ -1,7 +1,7 @@
 //! Scans and cursors.
 
 use crate::entries::{add, byte, dead, live, over};
-use am_index::{Hint, PartIndex};
+use am_index::{Hint, Listed, PartIndex};
 use am_index_btree::BTree;
 use am_index_list::ListIndex;
 use am_index_parts::Parts;
@@ -276,8 +276,9 @@ fn dealt(rt: &impl Abort, alloc: Global, runs: u64, in_turn: bool) -> Parts<BTre
                 pairs.push(row(number, b'a')).expect(rt, "memory");
             }
         }
-        if parts.append_run(&pairs).is_err() {
-            parts.append_run(&pairs).expect(rt, "memory");
+        let run = Listed { records: &pairs };
+        if parts.append_run(&run).is_err() {
+            parts.append_run(&run).expect(rt, "memory");
         }
         for pair in &pairs {
             let part = parts.runs();

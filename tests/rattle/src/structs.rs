@@ -62,11 +62,12 @@ fn whole_structs_are_read_where_they_lie(rt: HostRuntime) -> Result<(), Fail> {
     }
     let all = Structs::whole(THREE, 3, &LAYOUT).unwrap();
     let mut runs = cut_source(rt.alloc(), &all, 2).expect(&rt, "memory");
-    let first = runs.next(rt.alloc());
-    let second = runs.next(rt.alloc());
-    assert!(rt; matches!(&first, Ok(Some(run)) if run.records() == [due[1], due[0]].as_slice()));
-    assert!(rt; matches!(&second, Ok(Some(run)) if run.records() == [due[2]].as_slice()));
-    assert!(rt; matches!(&runs.next(rt.alloc()), Ok(None)));
+    for records in [[due[1], due[0]].as_slice(), &[due[2]]] {
+        let run = runs.run().expect(&rt, "a run").to_run(rt.alloc());
+        assert!(rt; matches!(&run, Ok(run) if run.records() == records));
+        runs.pass();
+    }
+    assert!(rt; runs.run().is_none());
     let pairs = structs_asked(rt.alloc(), THREE, 3, &LAYOUT);
     assert!(rt; matches!(&pairs, Ok(pairs) if pairs.as_slice() == due.as_slice()));
     Ok(())

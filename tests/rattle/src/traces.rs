@@ -2,8 +2,8 @@
 
 use am_record::{Key, LAST_RUN, MAX_RUNS, Op, Reply, Step, Value};
 use am_trace_print::trace_text;
-use am_trace_read::{TraceFault, front_event, read_by_fields, read_trace};
-use am_trace_text::{Version, byte_of, digit_of, needs_three};
+use am_trace_read::{TraceFault, front_event, read_by_fields, read_header, read_trace};
+use am_trace_text::{Header, StoreLimits, Version, byte_of, digit_of, needs_three};
 
 const STORED: &[u8] = b"TRACE 2
 SCAN 1 h h6162 18446744073709551615 | ROWS 2 h61=h h6162=h00ff
@@ -43,6 +43,32 @@ const USUAL: [&[u8]; 7] = [
     b"REP 1 h61 h62 | OK\nBEGIN",
     b"DEL 1 h61 | OK\nBEGIN",
     b"COMMIT 1 | COMMITTED 2\nBEGIN",
+];
+
+// First lines.
+const FIRST: [&[u8]; 6] = [
+    b"TRACE 1\n",
+    b"TRACE 2\n",
+    b"TRACE 3\n",
+    b"TRACE 4 4294967294 32 64 256 4096\n",
+    b"TRACE 4 1 32 64 256 4096\n",
+    b"TRACE 4 65535 32 64 256 4096\n",
+];
+
+// Lines that are none.
+const NO_FIRST: [&[u8]; 12] = [
+    b"\n",
+    b"TRACE 4\n",
+    b"TRACE 4 7 32 64 256 4096",
+    b"TRACE 4 0 32 64 256 4096\n",
+    b"TRACE 4 4294967295 32 64 256 4096\n",
+    b"TRACE 4 4294967303 32 64 256 4096\n",
+    b"TRACE 4 07 32 64 256 4096\n",
+    b"TRACE 4 7  32 64 256 4096\n",
+    b"TRACE 4 7 32 64 256\n",
+    b"TRACE 4 7 32 64 256 4096 \n",
+    b"TRACE 4 7 32 64 256 4095\n",
+    b"TRACE 3 7 32 64 256 4096\n",
 ];
 
 // Texts that are none of a trace, each with its first bad line.
@@ -105,9 +131,36 @@ fn version_3_has_the_lines_of_version_2(rt: HostRuntime) {
     let trace = read_trace(rt.alloc(), STORED).expect(&rt, "the text of a trace");
     let same = read_trace(rt.alloc(), STORED_IN_3).expect(&rt, "the text of a trace");
     assert!(rt; same.len() == 2 && same[0] == trace[0] && same[1] == trace[1]);
-    assert!(rt; Version::Two.most_runs() == MAX_RUNS && Version::Three.most_runs() == LAST_RUN);
     let text = trace_text(rt.alloc(), &same).expect(&rt, "memory");
     assert!(rt; text.as_slice() == STORED);
+}
+
+#[test]
+fn first_lines_are_read_and_written_again(rt: HostRuntime) {
+    for line in FIRST {
+        let mut text = Vec::from_slice(rt.alloc(), line).expect(&rt, "memory");
+        text.extend_from_slice(BEHIND).expect(&rt, "memory");
+        let (header, rest) = read_header(&text).expect(&rt, "a first line");
+        assert!(rt; header.line().as_slice() == line && rest == BEHIND);
+    }
+    for line in NO_FIRST {
+        assert!(rt; read_header(line).is_none());
+    }
+}
+
+#[test]
+fn a_first_line_says_the_version_and_the_runs(rt: HostRuntime) {
+    let limits = StoreLimits::with_runs(LAST_RUN);
+    for (line, version, most_runs) in [
+        (FIRST[1], Version::Two, MAX_RUNS),
+        (FIRST[2], Version::Three, MAX_RUNS),
+        (FIRST[3], Version::Three, LAST_RUN),
+        (FIRST[4], Version::Three, 1),
+    ] {
+        let (header, _) = read_header(line).expect(&rt, "a first line");
+        assert!(rt; header.version() == version && header.most_runs() == most_runs);
+        assert!(rt; (header == Header::Limits(limits)) == (most_runs == LAST_RUN));
+    }
 }
 
 #[test]

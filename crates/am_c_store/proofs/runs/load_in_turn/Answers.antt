@@ -1,50 +1,27 @@
-use Rattle.std.proofs.Common.{◌≡◌, ◌+◌, ℕ, List, Some, length, sym, ap, ◌∙◌, subst}
+use Rattle.std.proofs.Common.{◌≡◌, ◌+◌, ℕ, Some, sym, ◌∙◌, subst}
 use Rattle.std.specs.Prelude.{slice_get}
-use Rattle.am_record.specs.Plain.{Records}
-use Rattle.am_record.specs.declared.step.Op.{Op}
-use Rattle.am_record.specs.declared.step.Step.TheVariants.{Do}
-use Rattle.am_c_steps.specs.Bringings.{brings}
-use Rattle.am_c_store.specs.StoreSteps.{Takes}
-use Rattle.am_c_store.proofs.Turns.{IsLoading, sum_fits, goes_on, ends, has_no_room, is_over}
+use Rattle.am_c_store.proofs.Turns.{IsLoading, sum_fits, brought_in, not_brought, is_over}
 use Rattle.am_c_store.proofs.runs.load_in_turn.Goals as goal
-
-pub returns-in-Ok-None : goal.returns-in-Ok-None
-returns-in-Ok-None g c =
-    is_over _ _ _ _ _ _ _ c.loop-run.invariant (sym c.in-Ok-None.field-0-is ∙ c.in-Ok-None.ensures.run)
-
-pub returns-in-Err : goal.returns-in-Err
-returns-in-Err g c = has_no_room _ _ _ _ _ _ _ c.loop-run.invariant c.in-Err.ensures.left
 
 pub overflow_add-records : goal.overflow_add-records
 overflow_add-records g c =
-    let next : Some c.new-run.result ≡ slice_get c.loop-run.runs 0 = cc c.in-Ok-Some.ensures.run in
-    let taken : Takes c.loop-run.store.value (Do c.args.tx (brings c.args.bringing c.new-run.result))
-    c.take_there.result
-    c.take_there.new.store.value = subst (λ (op : Op). Takes c.loop-run.store.value (Do c.args.tx op)
-    c.take_there.result c.take_there.new.store.value) c.op.ensures c.take_there.ensures in
+    let next : Some c.in-Some.run' ≡ slice_get c.loop-run.runs 0 = sym c.in-Some.is ∙ c.run.ensures.run in
     record {
-      fits = rw c.as_slice.ensures (sum_fits _ _ _ _ _ _ _ _ _ _ c.loop-run.invariant next taken
-          c.requires);
+      fits = rw c.len-len.ensures (sum_fits _ _ _ _ _ _ _ c.in-Some.run' c.loop-run.invariant next c.requires);
     }
 
 pub loop-run-preserved : goal.loop-run-preserved
 loop-run-preserved g c =
-    let next : Some c.new-run.result ≡ slice_get c.loop-run.runs 0 = cc c.in-Ok-Some.ensures.run in
-    let taken : Takes c.loop-run.store.value (Do c.args.tx (brings c.args.bringing c.new-run.result))
-    c.take_there.result
-    c.take_there.new.store.value = subst (λ (op : Op). Takes c.loop-run.store.value (Do c.args.tx op)
-    c.take_there.result c.take_there.new.store.value) c.op.ensures c.take_there.ensures in
-    subst (λ (n : ℕ). IsLoading c.args.tx c.args.bringing c.args.runs c.args.store.now.value c.next.new.self
-    (c.loop-run.records + n) c.take_there.new.store.value) (ap length (sym c.as_slice.ensures))
-    (subst (λ (rest : List Records). IsLoading c.args.tx c.args.bringing c.args.runs c.args.store.now.value rest
-    (c.loop-run.records + length c.new-run.result) c.take_there.new.store.value) (sym c.in-Ok-Some.ensures.rest)
-    (goes_on _ _ _ _ _ _ _ _ _ _ c.loop-run.invariant next taken c.in-Done.is))
+    let next : Some c.in-Some.run' ≡ slice_get c.loop-run.runs 0 = sym c.in-Some.is ∙ c.run.ensures.run in
+    subst (λ (n : ℕ). IsLoading c.args.tx c.args.bringing c.args.runs c.args.store.now.value c.pass.new.self
+    (c.loop-run.records + n) c.bring.new.store.value) (sym c.len-len.ensures)
+    (rw c.pass.ensures (brought_in _ _ _ _ _ _ _ _ c.in-Some.run' _ c.loop-run.invariant next c.bring.ensures
+    c.in-Done.is))
 
-pub returns-in_default : goal.returns-in_default
-returns-in_default g c =
-    let next : Some c.new-run.result ≡ slice_get c.loop-run.runs 0 = cc c.in-Ok-Some.ensures.run in
-    let taken : Takes c.loop-run.store.value (Do c.args.tx (brings c.args.bringing c.new-run.result))
-    c.take_there.result
-    c.take_there.new.store.value = subst (λ (op : Op). Takes c.loop-run.store.value (Do c.args.tx op)
-    c.take_there.result c.take_there.new.store.value) c.op.ensures c.take_there.ensures in
-    ends _ _ _ _ _ _ _ _ _ _ c.loop-run.invariant next taken c.in_default.not-Done
+pub returns-in_default-bring : goal.returns-in_default-bring
+returns-in_default-bring g c =
+    let next : Some c.in-Some.run' ≡ slice_get c.loop-run.runs 0 = sym c.in-Some.is ∙ c.run.ensures.run in
+    not_brought _ _ _ _ _ _ _ _ c.in-Some.run' _ c.loop-run.invariant next c.bring.ensures c.in_default-bring.not-Done
+
+pub returns : goal.returns
+returns g c = is_over _ _ _ _ _ _ _ c.loop-run.invariant (sym c.in_default.is ∙ c.run.ensures.run)

@@ -1,7 +1,7 @@
 use Rattle.std.proofs.Common.{◌≡◌, inl, false, sym, ap, ◌∙◌}
 use Rattle.std.specs.Prelude.{is_err, not, ◌==◌}
 use Rattle.std.proofs.lemmas.Bool.{ne_eqb, cond-false}
-use Rattle.am_record.specs.Plain.{Records, is_rising, least_taken, exists_or_done}
+use Rattle.am_record.specs.Plain.{least_taken, exists_or_done}
 use Rattle.am_record.specs.declared.step.Reply.TheVariants.{Refused}
 use Rattle.am_record.specs.declared.step.Refusal.TheVariants.{TooManyRuns}
 use Rattle.am_record.proofs.Outcomes.{on_ok}
@@ -20,26 +20,21 @@ is_appended g c = c.is_ok.ensures.negation ∙ ap not c.if-is_ok.true
 pub returns-then-is_ok-clause-answer : goal.returns-then-is_ok-clause-answer
 returns-then-is_ok-clause-answer g c =
     let m = content c.args.parts.now.entries in
-    let none = least_from_none m c.records-records.result.now
-    (on_ok c.append_run.result (is_appended g c) c.append_run.ensures.dead) in
-    let due : load_due c.args.parts.now c.args.run.now ≡ exists_or_done (least_taken c.args.run.now m) =
-    cond-false (c.args.parts.now.runs == 4294967294) (Refused TooManyRuns)
-    (exists_or_done (least_taken c.args.run.now m))
+    let rs = g.S.RecordSource.records c.args.run.now in
+    let none = least_from_none m rs (on_ok c.append_run.result (is_appended g c) c.append_run.ensures.dead) in
+    let due : load_due c.args.parts.now rs ≡ exists_or_done (least_taken rs m) =
+    cond-false (c.args.parts.now.runs == 4294967294) (Refused TooManyRuns) (exists_or_done (least_taken rs m))
     (ne_eqb c.args.parts.now.runs 4294967294 (λ e. c.if-runs-eq-LAST_RUN.false (c.runs.ensures.runs ∙ e))) in
-    inl (sym (due ∙ ap exists_or_done (ap (λ (rs : Records). least_taken rs m) (sym c.records-records.ensures.all) ∙
-    none)))
+    inl (sym (due ∙ ap exists_or_done none))
 
 pub returns-then-is_ok-clause-done : goal.returns-then-is_ok-clause-done
 returns-then-is_ok-clause-done g c =
-    λ done. loaded c.args.parts.now c.append_run.new.self c.args.run.now c.records-records.result.now
-    c.append_run.result
-    (is_appended g c) c.records-records.ensures.all c.requires
-    (ap is_rising c.records-records.ensures.all ∙ c.records-records.ensures.rising) c.append_run.ensures.entries
+    λ done. loaded c.args.parts.now c.append_run.new.self (g.S.RecordSource.records c.args.run.now)
+    c.append_run.result (is_appended g c) c.requires.above c.requires.rising c.append_run.ensures.entries
     c.append_run.ensures.runs c.append_run.ensures.content
 
 pub returns-then-is_ok-clause-nothing_above : goal.returns-then-is_ok-clause-nothing_above
 returns-then-is_ok-clause-nothing_above g c =
-    nothing_above-loaded c.args.parts.now c.append_run.new.self c.args.run.now c.records-records.result.now
-    c.append_run.result (is_appended g c) c.records-records.ensures.all c.requires
-    (ap is_rising c.records-records.ensures.all ∙ c.records-records.ensures.rising) c.append_run.ensures.entries
+    nothing_above-loaded c.args.parts.now c.append_run.new.self (g.S.RecordSource.records c.args.run.now)
+    c.append_run.result (is_appended g c) c.requires.above c.requires.rising c.append_run.ensures.entries
     c.append_run.ensures.runs

@@ -21,14 +21,14 @@ get_room-requires-clause-placed g c =
     let es = c.args.parts.now.entries in
     subst (AllByRecursion (IsPlaced es))
     (sym (c.as_slice-2.ensures.value ∙ c.in_ok-updates.ensures.updates ∙ ap (λ l. updates l es) c.as_slice.ensures))
-    (found_placed es c.runs.ensures.sound.rising c.runs.ensures.sound.one_place c.args.records)
+    (found_placed es c.runs.ensures.sound.rising c.runs.ensures.sound.one_place c.args.records.now)
 
 pub load_new-requires-clause-sorted : goal.load_new-requires-clause-sorted
 load_new-requires-clause-sorted g c =
     let m = content c.args.parts.now.entries in
     subst (λ rs. is_sorted key_cmp rs ≡ true)
     (sym (c.in_ok-updates.ensures.fresh ∙ ap (λ l. new_records l m) c.as_slice.ensures))
-    (new_sorted c.args.records m c.requires.rising)
+    (new_sorted c.args.records.now m c.requires.rising)
 
 pub load_new-requires-clause-dead : goal.load_new-requires-clause-dead
 load_new-requires-clause-dead g c =
@@ -36,7 +36,7 @@ load_new-requires-clause-dead g c =
     subst (λ l. AreAllAbsent l c.in_ok-updates.field-0.fresh.items) (sym c.in_ok-get_room.ensures.entries)
     (subst (AreAllAbsent es)
     (sym (c.in_ok-updates.ensures.fresh ∙ ap (λ l. new_records l (content es)) c.as_slice.ensures))
-    (new_absent c.args.records es))
+    (new_absent c.args.records.now es))
 
 pub overwrite_all-requires-clause-placed : goal.overwrite_all-requires-clause-placed
 overwrite_all-requires-clause-placed g c =
@@ -68,11 +68,11 @@ returns-clause-done g c =
       entries = done.entries ∙ ap (updated c.as_slice-4.result.now) loaded.entries ∙
           (λ i. updated (us i) (with_run (got.runs i + 1) (new i) (got.entries i)));
       runs = done.runs ∙ loaded.runs ∙ (λ i. got.runs i + cond (nat_lt 0 (length (new i))) 1 0) ∙
-          ap (λ n. c.args.parts.now.runs + n) (made_of_new c.args.records m);
+          ap (λ n. c.args.parts.now.runs + n) (made_of_new c.args.records.now m);
       notes = done.notes ∙ ap (λ ns. notes_of_updates c.as_slice-4.result.now ++ ns) loaded.notes
           ∙ (λ i. notes_of_updates (us i) ++ (note_of_run (got.runs i + 1) (new i) ++ c.in_ok-reserve.ensures.notes i))
-          ∙ sym (append_assoc (notes_of_updates (updates c.args.records es))
-          (note_of_run (c.args.parts.now.runs + 1) (new_records c.args.records m)) c.args.log.now.notes);
+          ∙ sym (append_assoc (notes_of_updates (updates c.args.records.now es))
+          (note_of_run (c.args.parts.now.runs + 1) (new_records c.args.records.now m)) c.args.log.now.notes);
       marks = done.marks ∙ loaded.marks ∙ c.in_ok-reserve.ensures.marks;
     }
 

@@ -1,63 +1,41 @@
-use Rattle.std.proofs.Common.{ℕ, ◌≡◌, ◌⊎◌, ◌≤◌, IfSome, IfNone, ◌+◌, sym, subst, arith}
-use Rattle.std.proofs.Math.Nat.{le-max_left}
+use Rattle.std.proofs.Common.{◌≡◌, ℕ, List, false, get_or, take, IfSome, IfNone, sym, subst, arith}
 use Rattle.std.specs.BinaryHeap.{heap_items}
+use Rattle.std.proofs.lemmas.List.{get_or_default}
+use Rattle.am_index_parts.specs.Catalogs.{is_one_of, AllStandIn}
 use Rattle.am_store_scan.specs.Heads.{IsFirstHead, HasNoneLive}
-use Rattle.am_store_scan.proofs.GatheredHeads.{AreHeadsBelow, none_yet, passes_part, passes_runs, max_one, takes_head}
-use Rattle.am_store_scan.proofs.GatheredHeads.{has_all}
-use Rattle.am_store_scan.proofs.GatheredHeads.{has_all_numbers}
+use Rattle.am_store_scan.proofs.GatheredHeads.{AreHeadsOf, none_yet, not_yet, one_more_part, passes_part, takes_head}
+use Rattle.am_store_scan.proofs.GatheredHeads.{has_all, all_taken}
 use Rattle.am_store_scan.proofs.heads.heads_of.Goals as goal
-use Rattle.am_store_scan.proofs.heads.heads_of.Goals.{in-Some+in_ok-first+in_default-checked_add}
-use Rattle.am_store_scan.proofs.heads.heads_of.Goals.{in-Some-first+in_ok-push}
-use Rattle.am_store_scan.proofs.heads.heads_of.Goals.{in_default-first, in_default}
+use Rattle.am_store_scan.proofs.heads.heads_of.Goals.{in-Some+in_ok-push, in_default}
 
-pub loop-part-init : goal.loop-part-init
-loop-part-init g c = none_yet g.D.Direction.is_back c.args.parts.now.entries c.args.range
-    (heap_items c.new-heads.result)
-    c.new-heads.ensures.items c.new-heads.ensures.heap_order
+pub loop-at-init : goal.loop-at-init
+loop-at-init g c = none_yet g.D.Direction.is_back c.args.parts.now.entries c.args.range
+    (heap_items c.new-heads.result) c.new-heads.ensures.items c.new-heads.ensures.heap_order
 
-pub loop-part-preserved : goal.loop-part-preserved
-loop-part-preserved g c =
+pub loop-at-preserved : goal.loop-at-preserved
+loop-at-preserved g c =
     let back = g.D.Direction.is_back in
     let es = c.args.parts.now.entries in
-    let above = c.in-Some-checked_add.above in
-    let part = c.in-Some.part in
-    let gathered : AreHeadsBelow back es c.args.range above (heap_items c.match-first.heads) =
-    subst (λ n. AreHeadsBelow back es c.args.range n (heap_items c.match-first.heads))
-    (sym c.in-Some-checked_add.ensures.1)
+    let ps : List ℕ = c.args.sources.now in
+    let at = c.loop-at.at in
+    let part : ℕ = get_or ps at 0 in
+    let here : part ≡ get_or ps at part = get_or_default ps at 0 part c.loop-at-test.true in
+    subst (λ (l : List ℕ). AreHeadsOf back es c.args.range l (heap_items c.match-first.heads))
+    (sym (one_more_part ps at part c.loop-at-test.true here))
     (elim c.match-first.branch [
-      | in-Some-first+in_ok-push w ↦ rw w.heads-is (takes_head back c.loop-part.invariant part c.in-Some.ensures.further
-          c.in-Some.ensures.passed w.in-Some-first.head
-          (subst (λ o. IfSome o (IsFirstHead back es c.args.range part)) w.in-Some-first.is c.in_ok-first.ensures.some)
+      | in-Some+in_ok-push w ↦ rw w.heads-is (takes_head back c.loop-at.invariant part
+          (subst (λ (p : ℕ). is_one_of (take at ps) p ≡ false) (sym here) (not_yet ps at part c.requires.sources.rising
+          c.loop-at-test.true)) w.in-Some.head
+          (subst (λ o. IfSome o (IsFirstHead back es c.args.range part)) w.in-Some.is c.in_ok-first.ensures.some)
           w.in_ok-push.ensures.permutation w.in_ok-push.ensures.heap_order)
-      | in_default-first w ↦ rw w.heads-is (passes_part back c.loop-part.invariant part c.in-Some.ensures.further
-          c.in-Some.ensures.passed (subst (λ o. IfNone o (HasNoneLive es c.args.range part)) w.in_default-first.is
-          c.in_ok-first.ensures.none))
-    ]) in
-    passes_runs back gathered c.first_run-first_run.result c.max-from.result
-    (omega (arith, c.in-Some-checked_add.ensures.1))
-    (subst (λ (n : ℕ). above ≤ n) (sym c.max-from.ensures) (le-max_left above c.first_run-first_run.result))
-    (subst (λ (n : ℕ). (n ≡ above) ⊎ (n ≤ c.first_run-first_run.result)) (sym c.max-from.ensures)
-    (max_one above c.first_run-first_run.result)) c.first_run-first_run.ensures.none_before
+      | in_default w ↦ rw w.heads-is (passes_part back c.loop-at.invariant part
+          (subst (λ o. IfNone o (HasNoneLive es c.args.range part)) w.in_default.is c.in_ok-first.ensures.none))
+    ])
 
-pub returns-clause-heads : goal.returns-clause-heads
-returns-clause-heads g c =
+pub returns : goal.returns
+returns g c =
     let back = g.D.Direction.is_back in
-    let es = c.args.parts.now.entries in
-    elim c.match-next_part.branch [
-      | in-Some+in_ok-first+in_default-checked_add w ↦
-          let part = w.in-Some.part in
-          let gathered : AreHeadsBelow back es c.args.range (part + 1) (heap_items w.match-first.heads) =
-          (elim w.match-first.branch [
-            | in-Some-first+in_ok-push w' ↦ rw w'.heads-is
-                (takes_head back c.loop-part.invariant part w.in-Some.ensures.further w.in-Some.ensures.passed
-                w'.in-Some-first.head (subst (λ o. IfSome o (IsFirstHead back es c.args.range part)) w'.in-Some-first.is
-                w.in_ok-first.ensures.some) w'.in_ok-push.ensures.permutation w'.in_ok-push.ensures.heap_order)
-            | in_default-first w' ↦ rw w'.heads-is (passes_part back c.loop-part.invariant part
-                w.in-Some.ensures.further
-                w.in-Some.ensures.passed (subst (λ o. IfNone o (HasNoneLive es c.args.range part))
-                w'.in_default-first.is w.in_ok-first.ensures.none))
-          ]) in
-          rw w.heads-is (has_all_numbers back gathered c.next_part.ensures.sound w.in_default-checked_add.ensures)
-      | in_default w ↦
-          rw w.heads-is (has_all back c.loop-part.invariant w.in_default.ensures.none)
-    ]
+    let ps : List ℕ = c.args.sources.now in
+    has_all back c.loop-at.invariant (subst (AllStandIn c.args.parts.now.entries c.args.range)
+    (sym (all_taken ps c.loop-at.at (omega (arith, c.loop-at-test.false, c.loop-at.auto.at-end))))
+    c.requires.sources.every)

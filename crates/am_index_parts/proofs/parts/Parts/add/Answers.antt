@@ -1,8 +1,10 @@
-use Rattle.std.proofs.Common.{refl, ap, arith}
+use Rattle.std.proofs.Common.{refl, sym, ap, subst, arith}
+use Rattle.am_index_parts.specs.ApartRuns.{AreInOrder}
 use Rattle.am_index_parts.specs.Partitions.{Partitions}
+use Rattle.am_index_parts.specs.declared.apart_runs.ApartRuns.{ApartRuns}
 use Rattle.am_index_parts.proofs.CatalogCalls.{ok_map}
 use Rattle.am_index_parts.proofs.Changes.{adds, adds_sound}
-use Rattle.am_index_parts.proofs.Filters.{filtered_more, filtered_where_added}
+use Rattle.am_index_parts.proofs.KnownKeys.{known_more, known_where_added}
 use Rattle.am_index_parts.proofs.MergedKnowledge.{merged_where_added}
 use Rattle.am_index_parts.proofs.parts.Parts.add.Goals as goal
 
@@ -16,11 +18,12 @@ invariant_of-self-2 g c = (
       c.insert_or_forget.ensures.err,
   c.self.invariant.1,
   c.insert_or_forget.ensures.catalog,
-  filtered_where_added c.make_room_for.new.self (g.I.PartIndex.entries c.self.inside.index)
+  known_where_added c.make_room_for.new.self (g.I.PartIndex.entries c.self.inside.index)
       (g.I.PartIndex.entries c.insert_or_forget.new.index) c.args.entry c.insert_or_forget.result
       c.in_ok-make_room_for.ensures.entered c.insert_or_forget.ensures.ok c.insert_or_forget.ensures.err
-      (filtered_more (g.I.PartIndex.entries c.self.inside.index) c.self.inside.filters c.make_room_for.new.self
-      c.make_room_for.ensures.hash c.make_room_for.ensures.kept c.self.invariant.3),
+      (known_more (g.I.PartIndex.entries c.self.inside.index) c.self.inside.keys c.make_room_for.new.self
+      (subst (λ (a : ApartRuns). AreInOrder a.list.items) (sym c.make_room_for.ensures.apart))
+      c.make_room_for.ensures.kept c.self.invariant.3),
   merged_where_added (g.I.PartIndex.entries c.self.inside.index) (g.I.PartIndex.entries c.insert_or_forget.new.index)
       c.self.inside.runs c.args.entry c.self.inside.merged.list.items c.add-2.new.self.list.items
       c.insert_or_forget.result
@@ -34,8 +37,9 @@ invariant_of-self g c = (
   c.self.invariant.0,
   c.self.invariant.1,
   c.self.invariant.2,
-  filtered_more (g.I.PartIndex.entries c.self.inside.index) c.self.inside.filters c.make_room_for.new.self
-      c.make_room_for.ensures.hash c.make_room_for.ensures.kept c.self.invariant.3,
+  known_more (g.I.PartIndex.entries c.self.inside.index) c.self.inside.keys c.make_room_for.new.self
+      (subst (λ (a : ApartRuns). AreInOrder a.list.items) (sym c.make_room_for.ensures.apart))
+      c.make_room_for.ensures.kept c.self.invariant.3,
   c.self.invariant.4,
   c.self.invariant.5,
 )
@@ -45,8 +49,9 @@ invariant_of-self-in_err-add g c = (
   c.self.invariant.0,
   c.self.invariant.1,
   c.in_err-add.ensures.err _ c.self.invariant.2,
-  filtered_more (g.I.PartIndex.entries c.self.inside.index) c.self.inside.filters c.make_room_for.new.self
-      c.make_room_for.ensures.hash c.make_room_for.ensures.kept c.self.invariant.3,
+  known_more (g.I.PartIndex.entries c.self.inside.index) c.self.inside.keys c.make_room_for.new.self
+      (subst (λ (a : ApartRuns). AreInOrder a.list.items) (sym c.make_room_for.ensures.apart))
+      c.make_room_for.ensures.kept c.self.invariant.3,
   c.self.invariant.4,
   c.self.invariant.5,
 )

@@ -9,10 +9,10 @@ use Rattle.am_index.proofs.Rooms.{keep_on}
 use Rattle.am_index_parts.specs.Catalogs.{IsCatalog}
 use Rattle.am_index_parts.specs.MergedRanges.{AreMerged}
 use Rattle.am_index_parts.specs.Partitions.{Partitions, AreWellFormed, IsStretch, FirstNeedsRoom, all_gone_home}
-use Rattle.am_index_parts.specs.RunFilters.{AreFiltered}
+use Rattle.am_index_parts.specs.RunKeys.{AreKnown}
 use Rattle.am_index_parts.proofs.Neighbours.{front_then, back_then, settled_is, settled_rise, home_is, at_home}
 use Rattle.am_index_parts.proofs.Neighbours.{merged_all_home, needs_before}
-use Rattle.am_index_parts.proofs.Filters.{filtered_home}
+use Rattle.am_index_parts.proofs.KnownKeys.{known_home}
 use Rattle.am_index_parts.proofs.StandingEntries.{between}
 use Rattle.am_index_parts.proofs.parts.Parts.bring_home.Goals as goal
 
@@ -54,12 +54,16 @@ let_go-requires g c =
     let same = ap (λ (p : Partitions). p.entries) c.self.view_is in let sound = c.self.invariant.0 in
     let stretch = subst (λ (l : List Entry). IsStretch l xs) (sym same) c.requires in
     let settles = c.settle_all-count.ensures.settled ∙ settled_is sound xs stretch n le in
-    let front = front_then sound xs stretch n le in let back = back_then sound xs stretch n le in (
-      front ++ back,
-      c.forget_all.ensures front back (settled_rise sound xs stretch n le)
-          (subst (λ (l : List Entry). IsCatalog l c.settle_all-count.new.catalog) settles
-          c.settle_all-count.ensures.catalog),
-    )
+    let front = front_then sound xs stretch n le in let back = back_then sound xs stretch n le in
+    record {
+      counted = (
+        front ++ back,
+        c.forget_all.ensures front back (settled_rise sound xs stretch n le)
+            (subst (λ (l : List Entry). IsCatalog l c.settle_all-count.new.catalog) settles
+            c.settle_all-count.ensures.catalog),
+      );
+      order = c.self.invariant.3.order;
+    }
 
 pub invariant_of-self : goal.invariant_of-self
 invariant_of-self g c =
@@ -79,9 +83,9 @@ invariant_of-self g c =
       subst AreWellFormed home (at_home sound xs stretch n le).sound,
       c.self.invariant.1,
       catalog,
-      subst (λ (l : List Entry). AreFiltered l c.let_go.new.self) home
+      subst (λ (l : List Entry). AreKnown l c.let_go.new.self) home
           (c.let_go.ensures _ (subst (λ (l : List Entry). IsCatalog l c.forget_all.new.catalog) (sym home) catalog)
-          (filtered_home c.self.inside.filters (take n xs) es c.self.invariant.3)),
+          (known_home c.self.inside.keys (take n xs) es c.self.invariant.3)),
       subst (λ (l : List Entry). AreMerged l c.self.inside.runs c.self.inside.merged.list.items) home
           (merged_all_home (take n xs) es c.self.inside.runs c.self.inside.merged.list.items c.self.invariant.4),
       c.remove_all.ensures.rooms.have,

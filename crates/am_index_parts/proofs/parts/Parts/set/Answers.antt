@@ -4,7 +4,7 @@ use Rattle.am_index.specs.Entries.{find, set_entry}
 use Rattle.am_index_parts.specs.Catalogs.{IsCatalog}
 use Rattle.am_index_parts.specs.MergedRanges.{AreMerged}
 use Rattle.am_index_parts.specs.Partitions.{Partitions}
-use Rattle.am_index_parts.specs.RunFilters.{AreFiltered}
+use Rattle.am_index_parts.specs.RunKeys.{AreKnown}
 use Rattle.am_index_parts.proofs.Changes.{marks}
 use Rattle.am_index_parts.proofs.MergedKnowledge.{merged_set}
 use Rattle.am_index_parts.proofs.parts.Parts.set.Goals as goal
@@ -21,7 +21,7 @@ invariant_of-self g c =
           c.args.is_ghost c.requires.present c.requires.alone c.set-was_live.ensures.set).sound,
       c.self.invariant.1,
       subst (λ es. IsCatalog es c.mark.new.self) (sym c.set-was_live.ensures.set) counted,
-      subst (λ es. AreFiltered es c.set.new.self) (sym c.set-was_live.ensures.set)
+      subst (λ es. AreKnown es c.set.new.self) (sym c.set-was_live.ensures.set)
           (c.set.ensures (g.I.PartIndex.entries c.self.inside.index) c.args.key c.args.value there
           c.set-was_live.ensures.was_live counted c.self.invariant.3),
       subst (λ es. AreMerged es c.self.inside.runs c.self.inside.merged.list.items) (sym c.set-was_live.ensures.set)

@@ -7,11 +7,11 @@ use Rattle.am_index.specs.Entries.{slot_of}
 use Rattle.am_index_parts.specs.Catalogs.{IsCatalog}
 use Rattle.am_index_parts.specs.MergedRanges.{AreMerged}
 use Rattle.am_index_parts.specs.Partitions.{Partitions}
-use Rattle.am_index_parts.specs.RunFilters.{AreFiltered}
+use Rattle.am_index_parts.specs.RunKeys.{AreKnown}
 use Rattle.am_index.proofs.Content.{slot_live}
 use Rattle.am_index_parts.proofs.Changes.{takes}
 use Rattle.am_index_parts.proofs.MergedKnowledge.{merged_removed}
-use Rattle.am_index_parts.proofs.Filters.{filtered_removed}
+use Rattle.am_index_parts.proofs.KnownKeys.{known_removed}
 use Rattle.am_index_parts.proofs.parts.Parts.take.Goals as goal
 
 pub take-requires : goal.take-requires
@@ -37,8 +37,8 @@ invariant_of-self g c =
           (ap (λ (o : Option Entry). is_some (option_map slot_of o)) c.remove-entry.ensures.entry)
           (ap (λ (o : Option Entry). is_some (live_value (option_map slot_of o))) c.remove-entry.ensures.entry ∙
           slot_live x)),
-      subst (λ es. AreFiltered es c.self.inside.filters) (sym c.remove-entry.ensures.others)
-          (filtered_removed c.self.inside.filters es c.self.invariant.3 c.args.part c.args.key),
+      subst (λ es. AreKnown es c.self.inside.keys) (sym c.remove-entry.ensures.others)
+          (known_removed c.self.inside.keys es c.self.invariant.3 c.args.part c.args.key),
       subst (λ es. AreMerged es c.self.inside.runs c.self.inside.merged.list.items) (sym c.remove-entry.ensures.others)
           (merged_removed es c.self.inside.runs c.args.part c.args.key c.self.inside.merged.list.items
           c.self.invariant.4),

@@ -3,7 +3,7 @@ use Rattle.std.specs.Prelude.{not, ◌==◌}
 use Rattle.std.proofs.lemmas.Fn.{filter_same}
 use Rattle.am_index_parts.specs.declared.run_filters.Generation.{Generation}
 use Rattle.am_index_parts.specs.RunFilters.{MayBeIn}
-use Rattle.am_index_parts.proofs.Filters.{may_be_set, may_be_in_others, filtered_open}
+use Rattle.am_index_parts.proofs.Filters.{may_be_set, may_be_in_others}
 use Rattle.am_index_parts.proofs.run_filters.RunFilters.let_go.Goals as goal
 
 pub loop-at-preserved : goal.loop-at-preserved
@@ -16,11 +16,9 @@ loop-at-preserved c = record {
       (c.loop-at.invariant.kept live run n stays it);
 }
 
-pub returns : goal.returns
-returns c = λ es whole are.
-    filtered_open es c.args.catalog.now.runs.items c.args.self.now c.loop-at.self.hash
-    c.retain.new.self.items c.loop-at.invariant.hash whole.counted.every
-    (λ live run n stays it. subst (λ (l : List Generation). MayBeIn live l run n)
+pub returns-clause-kept : goal.returns-clause-kept
+returns-clause-kept c = λ live run n stays it.
+    subst (λ (l : List Generation). MayBeIn live l run n)
     (sym (filter_same _ (λ (g : Generation). not (length g.runs.items == 0)) _ (λ x b f' called. search rules) _ _
     c.retain.ensures.filtered)) (may_be_in_others live run n c.loop-at.self.generations.items
-    (c.loop-at.invariant.kept live run n stays it))) are
+    (c.loop-at.invariant.kept live run n stays it))
