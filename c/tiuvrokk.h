@@ -460,7 +460,7 @@ tvk_status tvk_load(tvk_store *store, uint64_t tx, const tvk_record *records, si
  * sorted, and they are loaded in turn, each as by tvk_load, until one is refused. No savepoint is set: what was loaded before
  * the refused run stays. Then abort, or go back to a savepoint of your own, or go on later with the records behind `loaded`.
  * Each run that is loaded is an operation, and locks the range from its first key to its last, exclusive: where there are more
- * than 255 runs, lock all keys first. Records are read where they lie, and copied run by run.
+ * than 255 runs, lock all keys first. Records are read where they lie, and none is copied but into the index.
  *
  * @param[in,out] store   the store
  * @param tx              the transaction

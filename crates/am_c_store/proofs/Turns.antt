@@ -1,6 +1,6 @@
 -- Runs that are loaded one after another.
 use Rattle.std.proofs.Common.{◌≡◌, ◌≢◌, ℕ, ◌+◌, ◌^◌, ◌<◌, List, [], ◌∷◌, length, Some, None}
-use Rattle.std.proofs.Common.{refl, sym, ap, ◌∙◌, subst, arith, length-append, take, drop, inl, inr, ⊎_elim}
+use Rattle.std.proofs.Common.{true, refl, sym, ap, ◌∙◌, subst, arith, length-append, take, drop, inl, inr, ⊎_elim}
 use Rattle.std.specs.Prelude.{slice_get}
 use Rattle.std.proofs.lemmas.Option.{none-some}
 use Rattle.std.proofs.lemmas.List.{take-append-drop}
@@ -13,7 +13,7 @@ use Rattle.am_record.specs.declared.step.Refusal.TheVariants.{NoMemory}
 use Rattle.am_store_runs.specs.Cuts.{AreRunsOf, records_of}
 use Rattle.am_law_sound.specs.StoreState.{StoreState}
 use Rattle.am_c_steps.specs.declared.bringing.Bringing.{Bringing}
-use Rattle.am_c_steps.specs.Bringings.{brings}
+use Rattle.am_c_steps.specs.Bringings.{brings, copies}
 use Rattle.am_c_store.specs.StoreSteps.{Takes}
 use Rattle.am_c_store.specs.Loads.{Brings, LoadGoesOn, LoadInTurn}
 
@@ -92,15 +92,15 @@ module _ (tx : ℕ) (bringing : Bringing) (all rest : List Records) (old p q : S
       subst (λ (n : ℕ). LoadInTurn tx bringing all old n reply q) none
       (h.on 0 reply q (subst (λ (rs : List Records). LoadInTurn tx bringing rs p 0 reply q) (sym is) first))
 
--- there is a run left, and no room for it
+-- there is a run left that is to be copied, and no room for that
 has_no_room : (tx : ℕ) (bringing : Bringing) (all rest : List Records) (old p : StoreState) (records : ℕ) →
-    IsLoading tx bringing all old rest records p → 0 < length rest → LoadInTurn tx bringing all old records
-    (Refused NoMemory) p
-has_no_room tx bringing all [] old p records h left = absurd (omega (arith, left))
-has_no_room tx bringing all (run ∷ rest) old p records h left =
+    IsLoading tx bringing all old rest records p → 0 < length rest → copies bringing ≡ true →
+    LoadInTurn tx bringing all old records (Refused NoMemory) p
+has_no_room tx bringing all [] old p records h left copied = absurd (omega (arith, left))
+has_no_room tx bringing all (run ∷ rest) old p records h left copied =
     let none : records + 0 ≡ records = omega arith in
     subst (λ (n : ℕ). LoadInTurn tx bringing all old n (Refused NoMemory) p) none
-    (h.on 0 (Refused NoMemory) p (inl (refl, refl, refl)))
+    (h.on 0 (Refused NoMemory) p (inl (copied, refl, refl, refl)))
 
 module _ (tx : ℕ) (bringing : Bringing) (all rest : List Records) (old p q : StoreState) (records : ℕ) (run : Records)
     (reply : Reply) (h : IsLoading tx bringing all old rest records p) (next : Some run ≡ slice_get rest 0)
@@ -108,7 +108,7 @@ module _ (tx : ℕ) (bringing : Bringing) (all rest : List Records) (old p q : S
   pub brought_in : reply ≡ Done → IsLoading tx bringing all old (drop 1 rest) (records + length run) q
   brought_in done = ⊎_elim
       (λ takes. goes_on tx bringing all rest old p q records run reply h next takes done)
-      (λ refused. absurd (not_done (sym refused.0 ∙ done))) brought
+      (λ refused. absurd (not_done (sym refused.1 ∙ done))) brought
     where
       not_done : ◌≡◌ {A = Reply} (Refused NoMemory) Done → ⊥
       not_done e = cc
@@ -116,10 +116,10 @@ module _ (tx : ℕ) (bringing : Bringing) (all rest : List Records) (old p q : S
   pub not_brought : reply ≢ Done → LoadInTurn tx bringing all old records reply q
   not_brought not = ⊎_elim
       (λ takes. ends tx bringing all rest old p q records run reply h next takes not)
-      (λ refused. subst (λ (r : Reply). LoadInTurn tx bringing all old records r q) (sym refused.0)
-      (subst (λ (s : StoreState). LoadInTurn tx bringing all old records (Refused NoMemory) s) (sym refused.1)
+      (λ refused. subst (λ (r : Reply). LoadInTurn tx bringing all old records r q) (sym refused.1)
+      (subst (λ (s : StoreState). LoadInTurn tx bringing all old records (Refused NoMemory) s) (sym refused.2)
       (has_no_room tx bringing all rest old p records h
-      (omega (arith, ap (λ (rs : List Records). length rs) (first_of rest run next)))))) brought
+      (omega (arith, ap (λ (rs : List Records). length rs) (first_of rest run next))) refused.0))) brought
 
 pub is_over : (tx : ℕ) (bringing : Bringing) (all rest : List Records) (old p : StoreState) (records : ℕ) →
     IsLoading tx bringing all old rest records p → None ≡ slice_get rest 0 → LoadInTurn tx bringing all old records Done

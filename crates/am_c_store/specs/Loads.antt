@@ -1,5 +1,5 @@
 -- Records in any order: the runs that they are cut into, and bringing these in in turn.
-use Rattle.std.specs.Prelude.{◌≡◌, ◌⊎◌, ◌+◌, ℕ, List, [], ◌∷◌, length, Option, None, Some, Result, Ok, Err}
+use Rattle.std.specs.Prelude.{◌≡◌, ◌⊎◌, ◌+◌, ℕ, List, [], ◌∷◌, length, Option, None, Some, Result, Ok, Err, true}
 use Rattle.am_record.specs.Limits.{max_run_records}
 use Rattle.am_record.specs.Plain.{Records}
 use Rattle.am_record.specs.declared.step.Step.TheVariants.{Do}
@@ -13,7 +13,7 @@ use Rattle.am_c_steps.specs.declared.load_answers.LoadFailure.{LoadFailure}
 use Rattle.am_c_steps.specs.declared.load_answers.LoadFailure.TheVariants.{Twice, Other}
 use Rattle.am_c_steps.specs.declared.status.Status.{Status}
 use Rattle.am_c_steps.specs.declared.status.Status.TheVariants as is
-use Rattle.am_c_steps.specs.Bringings.{brings}
+use Rattle.am_c_steps.specs.Bringings.{brings, copies}
 use Rattle.am_c_steps.specs.Lines.{IsRead}
 use Rattle.am_c_store.specs.StoreSteps.{Takes}
 
@@ -45,14 +45,17 @@ abbrev pub LoadGoesOn : Records → (StoreState → ℕ → Reply → StoreState
 LoadGoesOn run Others Done p loaded reply new = (more : ℕ) × (loaded ≡ length run + more) × Others p more reply new
 LoadGoesOn run Others first p loaded reply new = (loaded ≡ 0) × (reply ≡ first) × (new ≡ p)
 
--- the run was brought in by a step of its own, or memory was refused before it was asked for, and nothing is done
+-- the run was brought in by a step of its own; or it is to be copied first, and memory was refused for that, and
+-- nothing is done
 abbrev pub Brings : StoreState → ℕ → Bringing → Records → Reply → StoreState → Type 0
 Brings old tx bringing run reply new =
-    Takes old (Do tx (brings bringing run)) reply new ⊎ ((reply ≡ Refused NoMemory) × (new ≡ old))
+    Takes old (Do tx (brings bringing run)) reply new
+    ⊎ ((copies bringing ≡ true) × (reply ≡ Refused NoMemory) × (new ≡ old))
 
--- memory was refused for the next run, so that nothing is done any more
-abbrev pub HasNoRoom : StoreState → ℕ → Reply → StoreState → Type 0
-HasNoRoom old loaded reply new = (loaded ≡ 0) × (reply ≡ Refused NoMemory) × (new ≡ old)
+-- the next run is to be copied first, and memory was refused for that, so that nothing is done any more
+abbrev pub HasNoRoom : Bringing → StoreState → ℕ → Reply → StoreState → Type 0
+HasNoRoom bringing old loaded reply new =
+    (copies bringing ≡ true) × (loaded ≡ 0) × (reply ≡ Refused NoMemory) × (new ≡ old)
 
 -- the store took the next run by a step of its own, and what comes after that
 abbrev pub TakesRun : ℕ → Bringing → Records → (StoreState → ℕ → Reply → StoreState → Type 0) → StoreState → ℕ → Reply →
@@ -66,7 +69,8 @@ TakesRun tx bringing run Others old loaded reply new =
 abbrev pub LoadInTurn : ℕ → Bringing → List Records → StoreState → ℕ → Reply → StoreState → Type 0
 LoadInTurn tx bringing [] old loaded reply new = (loaded ≡ 0) × (reply ≡ Done) × (new ≡ old)
 LoadInTurn tx bringing (run ∷ runs) old loaded reply new =
-    HasNoRoom old loaded reply new ⊎ TakesRun tx bringing run (LoadInTurn tx bringing runs) old loaded reply new
+    HasNoRoom bringing old loaded reply new
+    ⊎ TakesRun tx bringing run (LoadInTurn tx bringing runs) old loaded reply new
 
 -- the runs of what was given were loaded so
 pub record LoadsRuns (old : StoreState) (tx : ℕ) (bringing : Bringing) (given : Result Records Status) (loaded : ℕ)

@@ -151,5 +151,8 @@ module _ {es : List Entry} {n : ℕ} {runs : List OpenRun} (h : AreListed es n r
       has_dead dead = omega (arith, left_here, lives_here, dead_among_its part key es there dead)
 
   -- one that isn't listed has none
+  pub none_left : IsGapAt runs part i → 0 < part → left_in part es ≡ 0
+  none_left gap lt = none_counted part es (none_at_gap h part i gap lt)
+
   pub none_lives : IsGapAt runs part i → 0 < part → live_of part es ≡ 0
-  none_lives gap lt = omega (arith, alive_at_most part es, none_counted part es (none_at_gap h part i gap lt))
+  none_lives gap lt = omega (arith, alive_at_most part es, none_left gap lt)

@@ -13,7 +13,7 @@ ghost use Rattle.am_index.specs.Content.{live_value};
 ghost use Rattle.am_index.specs.Runs.{run_entries};
 ghost use Rattle.am_index_parts.specs.GoingHome.{IsHome};
 ghost use Rattle.am_index_parts.specs.Catalogs.{parts_of, PartsRise, IsRunAt, IsGapAt, HasCounted, HasMore, IsNext};
-ghost use Rattle.am_index_parts.specs.Catalogs.{runs_in, is_one_of, live_of, HasTurned};
+ghost use Rattle.am_index_parts.specs.Catalogs.{runs_in, is_one_of, left_in, live_of, HasTurned};
 
 use am_index::Figures;
 use am_record::NoMemory;
@@ -119,6 +119,7 @@ impl Catalog {
     /// How many entries are left in the run.
     pub(crate) fn left_in(&self, part: u32) -> u64
         requires { PartsRise (parts_of self.now.runs.items) }
+        ensures { (es : List Entry) → IsCatalog es self.now → 0 < part → result ≡ left_in part es }
     {
         match search(&self.runs, part) {
             Ok(at) => self.runs[at].left,
@@ -129,6 +130,7 @@ impl Catalog {
     /// How many entries of the run are live.
     pub(crate) fn live_in(&self, part: u32) -> u64
         requires { PartsRise (parts_of self.now.runs.items) }
+        ensures { (es : List Entry) → IsCatalog es self.now → 0 < part → result ≡ live_of part es }
     {
         match search(&self.runs, part) {
             Ok(at) => self.runs[at].live,
@@ -141,10 +143,7 @@ impl Catalog {
         requires { PartsRise (parts_of self.now.runs.items) }
         ensures { (es : List Entry) → IsCatalog es self.now → 0 < part → result ≡ nat_lt 0 (live_of part es) }
     {
-        match search(&self.runs, part) {
-            Ok(at) => self.runs[at].live > 0,
-            Err(_) => false,
-        }
+        self.live_in(part) > 0
     }
 
     /// How many runs have entries left.

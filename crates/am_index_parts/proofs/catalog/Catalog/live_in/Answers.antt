@@ -1,10 +1,9 @@
-use Rattle.std.proofs.Common.{ap, sym, subst}
-use Rattle.std.specs.Prelude.{nat_lt}
+use Rattle.std.proofs.Common.{sym, subst}
 use Rattle.am_index_parts.specs.Catalogs.{IsGapAt}
 use Rattle.am_index_parts.proofs.CatalogCalls.{none_lives}
-use Rattle.am_index_parts.proofs.catalog.Catalog.has_live.Goals as goal
+use Rattle.am_index_parts.proofs.catalog.Catalog.live_in.Goals as goal
 
 pub returns-in-Err : goal.returns-in-Err
 returns-in-Err c = λ es whole some.
     let gap = subst (λ l. IsGapAt l c.args.part c.in-Err.field-0) c.deref.ensures.value c.in-Err.ensures.absent in
-    ap (nat_lt 0) (sym (none_lives whole.counted c.args.part c.in-Err.field-0 gap some))
+    sym (none_lives whole.counted c.args.part c.in-Err.field-0 gap some)
