@@ -60,6 +60,15 @@ def wanted(what: str, found: Any, right: Any) -> None:
         fail(f"{what}: {str(found)[:300]!r} and not {str(right)[:300]!r}")
 
 
+def until(what: str, is_so: Callable[[], bool], pause: float = 0.01) -> None:
+    """Waits for a state, and fails where it doesn't come."""
+    begun = time.monotonic()
+    while not is_so():
+        if time.monotonic() > begun + LIMIT:
+            fail(f"{what} isn't so after {LIMIT} seconds")
+        time.sleep(pause)
+
+
 class Interrupted(BaseException):
     """What an interrupt raises here."""
 

@@ -13,11 +13,13 @@ import sys
 import tempfile
 import time
 from contextlib import contextmanager
-from typing import Dict, Iterator, List, Optional
+from typing import Callable, Dict, Iterator, List, Optional
 
 import progress
+import rooms
+import surroundings
 from children import child
-from tree import TOP, below, crates, is_program, is_static, lines
+from tree import TOP, below, crates, is_program, is_static, lines, lines_of
 
 COPY, MEANWHILE = "copy", "meanwhile"
 # What a check takes at most, in bytes of memory, so that not too many work at once.
@@ -31,10 +33,11 @@ def build(names: List[str]) -> int:
     if not knows_gate():
         progress.tell("this rt knows no `ci`: put the rt of a Rattle kit on the path")
         return 2
+    surroundings.look_at_memory(copied(names) or list(crates()))
     os.environ.pop("RT_ALLOW_C", None)
     programs = [it for it in names if is_program(it)]
     static = [it for it in names if is_static(it)]
-    statuses = [by_gate(programs)] * bool(programs)
+    statuses = [by_gate(programs)] if programs else []
     statuses += [by_check(it, "lib") for it in static]
     if not names or len(programs) + len(static) < len(names):
         statuses.append(check_all())
@@ -48,24 +51,37 @@ def knows_gate() -> bool:
 
 
 @contextmanager
-def room() -> Iterator[str]:
-    """A folder for a copy, outside of any repository, and in it one for what `rt` makes meanwhile: all of it is let go where this
-    program ends. (`rt` runs programs there as nobody.)"""
-    with tempfile.TemporaryDirectory(prefix="tiuvrokk-", dir=os.environ.get("TMPDIR") or "/var/tmp") as folder:
-        os.makedirs(f"{folder}/{COPY}")
-        os.makedirs(f"{folder}/{MEANWHILE}")
+def room(names: List[str], is_for_gate: bool) -> Iterator[str]:
+    """A folder for a copy of crates, outside of any repository, and in it one for what `rt` makes meanwhile: all of it is
+    let go where this program ends. (The gate runs programs there, as nobody.)"""
+    before = os.environ.get("TMPDIR") or "/var/tmp"
+    surroundings.look_at_writing(before)
+    if is_for_gate:
+        surroundings.look_at_programs(before)
+        surroundings.look_at_repositories(before)
+    with rooms.room(before) as folder:
+        # (what builds left that were killed is gone now)
+        surroundings.look_at_room(before, surroundings.need_of(copied(names)))
         os.chmod(folder, 0o711)
+        for name in (COPY, MEANWHILE):
+            os.makedirs(f"{folder}/{name}")
+            os.chmod(f"{folder}/{name}", 0o755)
         os.environ["TMPDIR"] = f"{folder}/{MEANWHILE}"
         try:
             yield f"{folder}/{COPY}"
         finally:
-            os.environ["TMPDIR"] = os.path.dirname(folder)
+            os.environ["TMPDIR"] = before
+
+
+def copied(names: List[str]) -> List[str]:
+    """These crates with what is below, in order."""
+    wanted = {it for name in names for it in [name, *below(name)]}
+    return [it for it in lines() if it in wanted]
 
 
 def cut(names: List[str], folder: str) -> List[str]:
     """Copies crates with what is below, and gives all that were copied."""
-    wanted = {it for name in names for it in [name, *below(name)]}
-    kept = [it for it in lines() if it in wanted]
+    kept = copied(names)
     with open(f"{folder}/crates.txt", "w", encoding="utf-8") as file:
         file.write("".join(f"{lines()[it]}\n" for it in kept))
     shutil.copy(f"{TOP}/HANDLES", folder)
@@ -76,17 +92,16 @@ def cut(names: List[str], folder: str) -> List[str]:
 
 def by_gate(programs: List[str]) -> int:
     """Builds programs by `rt ci` on a copy."""
-    with room() as folder:
+    with room(programs, is_for_gate=True) as folder:
         kept = cut(programs, folder)
         progress.tell(f"proving and building {len(kept)} crates by rt ci")
-        gate = Gate(kept)
-        status = gate.run(folder)
+        status = Run(kept, ["rt", "ci"], r"rt: (\w+) (?:proved|is kept\b.*)").status(folder, refusals)
         if status:
-            return without_room(folder) or status
+            return without_room(folder, kept) or status
         for program in programs:
             made = f"{folder}/crates/{program}/out/{program}"
             # (a kit that keeps what a gate passed may leave none)
-            status = 0 if os.path.isfile(made) else checked(program, folder, "run", "--", "--help")
+            status = 0 if os.path.isfile(made) else checked(program, kept, folder, "run", "--", "--help")
             if status:
                 return status
             put(made, program)
@@ -95,20 +110,21 @@ def by_gate(programs: List[str]) -> int:
 
 def by_check(crate: str, *words: str) -> int:
     """Has `rt` build a library for C in a copy, whose libraries are checked before."""
-    with room() as folder:
-        progress.tell(f"proving and building {len(cut([crate], folder))} crates by rt {' '.join(words)}")
-        status = checked(crate, folder, *words)
+    with room([crate], is_for_gate=False) as folder:
+        kept = cut([crate], folder)
+        progress.tell(f"proving and building {len(kept)} crates by rt {' '.join(words)}")
+        status = checked(crate, kept, folder, *words)
         if not status:
             put(f"{folder}/crates/{crate}/out/lib{crate}.a", f"lib{crate}.a", crate)
     return status
 
 
-def without_room(folder: str) -> int:
+def without_room(folder: str, kept: List[str]) -> int:
     """Tells of a disk that is nearly full, where the kit's words say something else."""
-    if shutil.disk_usage(folder).free > LEAST_FREE:
-        return 0
     outside = os.path.dirname(os.path.dirname(folder))
-    progress.tell(f"{outside}: No space left on device: a build wants a folder with 1 GB free, which TMPDIR may name")
+    if shutil.disk_usage(outside).free > LEAST_FREE:
+        return 0
+    progress.tell(f"{outside}: No space left on device: {surroundings.remedy_for(kept)}")
     return 1
 
 
@@ -120,23 +136,26 @@ def put(made: str, name: str, crate: Optional[str] = None) -> None:
     os.replace(f"{out}/{name}.new", f"{out}/{name}")
 
 
-def checked(crate: str, folder: str, *words: str) -> int:
+def checked(crate: str, kept: List[str], folder: str, *words: str) -> int:
     """Runs `rt` with these words for a crate of a copy, over libraries that are checked side by side."""
     at = f"{folder}/crates/{crate}"
-    return told(["rt", "all", "check", "--jobs", str(at_once())], at) or told(["rt", *words], at)
+    return check(kept, at) or told(["rt", *words], at)
 
 
 def check_all() -> int:
     """Checks all libraries where they stand."""
     progress.tell(f"proving {len(crates())} crates by rt all check")
-    return told(["rt", "all", "check", "--jobs", str(at_once())], TOP)
+    return check(list(crates()), TOP)
+
+
+def check(names: List[str], at: str) -> int:
+    """Checks crates side by side, and gives the status."""
+    return Run(names, ["rt", "all", "check", "--jobs", str(at_once())], r"== (\w+)").status(at, lambda said: said)
 
 
 def at_once() -> int:
     """How many checks the processors and the free memory have room for."""
-    with open("/proc/meminfo", encoding="utf-8") as file:
-        found = re.search(r"MemAvailable:\s+(\d+)", file.read())
-    free = 1024 * int(found[1]) if found else MEMORY_OF_A_CHECK
+    _, free = surroundings.memory()
     return max(1, min(len(os.sched_getaffinity(0)), free // MEMORY_OF_A_CHECK))
 
 
@@ -152,11 +171,11 @@ def told(words: List[str], folder: str) -> int:
     return 1 if status else 0
 
 
-class Gate:
-    """A run of `rt ci` on a copy, and how far it is."""
+class Run:
+    """A command of the kit that goes through crates, which it names in lines of this form, and how far it is."""
 
-    def __init__(self, names: List[str]) -> None:
-        self.names = names
+    def __init__(self, names: List[str], words: List[str], form: str) -> None:
+        self.names, self.words, self.form = names, words, form
         sizes = {it: 150 + lines_of(it) for it in names}
         self.waits = {it: [other for other in crates()[it] if other in names] for it in names}
         self.shown = progress.Progress(sizes, self.waits)
@@ -164,19 +183,22 @@ class Gate:
         self.begun = time.monotonic()
         self.ready: Dict[str, float] = {it: self.begun for it in names if not self.waits[it]}
 
-    def run(self, folder: str) -> int:
-        """Runs it, and tells of each crate as it is judged. Gives the status."""
-        with child(["rt", "ci"], cwd=folder, stdout=subprocess.PIPE, stderr=subprocess.STDOUT) as running:
+    def status(self, folder: str, faults: Callable[[List[str]], List[str]]) -> int:
+        """Runs it, and tells of each crate as it is judged, and of faults by what it said. Gives the status, which is 1 where
+        the kit refuses."""
+        # (a kit may see no control group below the highest)
+        environment = {**({"RT_JOBS": str(at_once())} if surroundings.is_bound() else {}), **os.environ}
+        with child(self.words, cwd=folder, env=environment, stdout=subprocess.PIPE, stderr=subprocess.STDOUT) as running:
             assert running.stdout
             for line in progress.lines_as_they_come(running.stdout, lambda: self.shown.show(self.working())):
                 self.said.append(line)
-                judged = re.fullmatch(r"rt: (\w+) (?:proved|is kept\b.*)", line)
-                if judged and judged[1] in self.waits:
+                judged = re.fullmatch(self.form, line)
+                if judged and judged[1] in self.waits and judged[1] not in self.shown.seconds:
                     self.proved(judged[1])
             status = running.wait()
         self.shown.clear()
         if status:
-            self.shown.say(refusals(self.said))
+            self.shown.say(faults(self.said))
         return 1 if status else 0
 
     def working(self) -> Dict[str, float]:
@@ -193,16 +215,6 @@ class Gate:
             if it not in done and it not in self.ready and all(other in done for other in self.waits[it]):
                 self.ready[it] = now
         self.shown.say([f"{now - self.begun:5.0f} s  {crate}, {len(self.names) - len(done)} left"])
-
-
-def lines_of(crate: str) -> int:
-    """The lines of a crate's code."""
-    found = 0
-    for at, _, files in os.walk(f"{TOP}/crates/{crate}/src"):
-        for name in files:
-            with open(f"{at}/{name}", "rb") as file:
-                found += file.read().count(b"\n")
-    return found
 
 
 def refusals(said: List[str]) -> List[str]:

@@ -10,17 +10,24 @@ from typing import List
 sys.dont_write_bytecode = True
 import builds  # noqa: E402
 import children  # noqa: E402
+import streams  # noqa: E402
+import surroundings  # noqa: E402
 from tree import lines  # noqa: E402
 
 
 def main(names: List[str]) -> int:
     """Builds these crates, and gives the status."""
+    streams.open_closed()
     missing = [it for it in names if it not in lines()]
     if missing:
         print(f"tools/build.py: crates.txt names no crate {' '.join(missing)}", file=sys.stderr)
         return 2
     children.take_signals()
-    return builds.build(names)
+    try:
+        return builds.build(names)
+    except surroundings.Lacking as lacking:
+        print(lacking, file=sys.stderr)
+        return 1
 
 
 if __name__ == "__main__":

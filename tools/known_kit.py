@@ -7,7 +7,8 @@ Where libraries are asked for, what is kept is what `rt check` keeps and goes on
 as the gate judges it. It stands on libraries of which the statements alone are kept, in out/rlib/stated, since these are read
 sooner; or on those that the gate left, where they are of these sources, here or in another copy of the repository on this machine.
 A run that was interrupted goes on where it was, after a change only what stands on it is proved again, and two runs wait for
-each other. A terminal is shown the share that is done and the time that is left.
+each other. Libraries that no later start needs are let go, unless --keep comes first. A terminal is shown the share that is done
+and the time that is left.
 
 The status is 0, REFUSED where the kit refuses a crate, UNKNOWN where the kit is none of these, and else another: this file is
 wrong, or the kit can't judge."""
@@ -29,9 +30,10 @@ from typing import Any, Dict, List, Sequence, Tuple
 sys.dont_write_bytecode = True
 import progress  # noqa: E402
 import sums  # noqa: E402
-from builds import REFUSED, UNKNOWN, WRONG  # noqa: E402
+import surroundings  # noqa: E402
+from builds import KEEP, REFUSED, UNKNOWN, WRONG  # noqa: E402
 from progress import tell as say  # noqa: E402
-from tree import TOP  # noqa: E402
+from tree import STARTED, TOP  # noqa: E402
 
 # The kits with which tests/building.py passed by this file and by any_kit.py.
 KITS = ["rattle-kit-13b logic dac8208d650f15bf", "rattle-kit-13f logic dac8208d650f15bf"]
@@ -65,16 +67,20 @@ def inside() -> types.ModuleType:
     return library
 
 
+def wrong(error: Exception) -> int:
+    """Tells what is wrong with this file, as where a kit has a known line and another inside, and gives the status."""
+    say(f"tools/known_kit.py: {type(error).__name__}: {error}: building by rt ci instead, which takes longer")
+    return WRONG
+
+
 if sums.kit() not in KITS:
     sys.exit(UNKNOWN)
-rtlib = inside()
-# (a crate's sum is made of those below it, and is the same all through a run: a change meanwhile is seen by the next)
-rtlib.Crate.stamp = functools.lru_cache(maxsize=None)(rtlib.Crate.stamp)
-
-
-def memory_free() -> int:
-    """The free memory in bytes."""
-    return 1024 * int(rtlib.number_in("/proc/meminfo", r"MemAvailable:\s+(\d+)"))
+try:
+    rtlib = inside()
+    # (a crate's sum is made of those below it, and is the same all through a run: a change meanwhile is seen by the next)
+    rtlib.Crate.stamp = functools.lru_cache(maxsize=None)(rtlib.Crate.stamp)
+except Exception as fault:
+    sys.exit(wrong(fault))
 
 
 def memory_of(crate: Crate) -> int:
@@ -193,6 +199,7 @@ def build_whole(crate: Crate, flags: List[str]) -> Any:
     status = crate.prove(["build", *words])
     if not status and crate.is_program:
         status = crate.link(made, f"out/{name}.new")
+        os.remove(f"{crate.folder}/{made}")
     if not status:
         os.replace(f"{crate.folder}/out/{name}.new", f"{crate.folder}/out/{name}")
     return status
@@ -224,7 +231,7 @@ class Builds:
         self.waiting = [crate for crate in crates if not crate.makes_rlib() or not is_built(crate)]
         self.waiting.sort(key=lambda crate: -self.chain[crate])
         self.processors = len(os.sched_getaffinity(0))
-        self.memory = 0.85 * memory_free()
+        self.memory = 0.85 * surroundings.memory()[1]
         self.begun = time.monotonic()
         # (each with its processors and the time of its begin)
         self.running: Dict["Future[Tuple[Any, str]]", Tuple[Crate, int, float]] = {}
@@ -280,6 +287,13 @@ def build_all(crates: List[Crate]) -> int:
     builds = Builds(crates)
     if not builds.waiting:
         return 0
+    try:
+        waiting = [it.name for it in builds.waiting]
+        surroundings.look_at_memory(waiting)
+        surroundings.look_at_room(TOP, surroundings.need_of(waiting), "build in a copy on another disk")
+    except surroundings.Lacking as lacking:
+        say(str(lacking))
+        return REFUSED
     say(f"proving and building {len(builds.waiting)} crates on {builds.processors} processors")
     with ThreadPoolExecutor(builds.processors) as pool:
         while builds.running or builds.waiting and not builds.failures:
@@ -289,7 +303,15 @@ def build_all(crates: List[Crate]) -> int:
     return REFUSED if builds.failures and {*builds.failures} == {1} else len(builds.failures)
 
 
-def main(names: List[str]) -> int:
+def let_go(libraries: List[Crate], known: List[Crate], built: List[str]) -> None:
+    """Lets libraries go on which nothing stands that has still to be built, no program nor library for C."""
+    lacking = [it for it in known if it.name in STARTED and it.name not in built and sums.lacking([it.name])]
+    for crate in libraries:
+        if not any(crate in other.below() for other in lacking):
+            shutil.rmtree(os.path.dirname(crate.rlib) if crate.rlib == stated(crate) else crate.rlib, ignore_errors=True)
+
+
+def main(names: List[str], keeps: bool) -> int:
     """Builds these crates with what is below, and gives the status."""
     known = rtlib.crates_below(TOP)
     wanted = [crate for crate in known if crate.name in names or not names]
@@ -299,7 +321,8 @@ def main(names: List[str]) -> int:
     crates.sort(key=lambda crate: len(crate.below()))
     held = rtlib.lock(crates)
     libraries = [crate for crate in crates if crate.makes_rlib()]
-    if libraries != crates:
+    is_whole = libraries != crates
+    if is_whole:
         take_kept(crates)
         if all(is_left_by_gate(crate) for crate in libraries):
             crates = [crate for crate in crates if not is_left_by_gate(crate)]
@@ -307,6 +330,8 @@ def main(names: List[str]) -> int:
             for crate in libraries:
                 crate.rlib = stated(crate)
     status = build_all(crates)
+    if is_whole and not status and not keeps:
+        let_go(libraries, known, names)
     for it in held:
         os.close(it)
     return status
@@ -315,7 +340,6 @@ def main(names: List[str]) -> int:
 if __name__ == "__main__":
     signal.signal(signal.SIGINT, signal.SIG_DFL)
     try:
-        sys.exit(main(sys.argv[1:]))
-    except Exception as error:  # (whatever is wrong here, there is another way)
-        say(f"tools/known_kit.py: {type(error).__name__}: {error}")
-        sys.exit(WRONG)
+        sys.exit(main([it for it in sys.argv[1:] if it != KEEP], KEEP in sys.argv))
+    except Exception as fault:  # (whatever is wrong here, there is another way)
+        sys.exit(wrong(fault))

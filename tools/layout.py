@@ -10,7 +10,7 @@ import sys
 import tempfile
 from typing import Dict, Iterable, List, NamedTuple, Optional
 
-from tree import told_by_git
+from tree import STARTED, told_by_git
 
 TOP = os.path.dirname(os.path.dirname(os.path.abspath(__file__)))
 # (for what makes the Python package)
@@ -73,11 +73,17 @@ def built_programs(folder: Optional[str]) -> Dict[str, bytes]:
     aren't."""
     names = [*PROVED, REPLICA]
     if folder is None:
-        makers = [[f"{TOP}/tools/built.py", *PROVED], [f"{TOP}/tools/replica_library.py"]]
-        places = [line for maker in makers for line in subprocess.run(maker, stdout=subprocess.PIPE, text=True, check=True).stdout.splitlines()]
+        # (by one call, so that no processor is idle while the last crate below one of them is proved)
+        made = dict(zip(STARTED, told_by(f"{TOP}/tools/built.py", *STARTED)))
+        places = [*(made[it] for it in PROVED), *told_by(f"{TOP}/tools/replica_library.py")]
     else:
         places = [os.path.join(folder, name) for name in names]
     return {name: stripped(place) for name, place in zip(names, places)}
+
+
+def told_by(*words: str) -> List[str]:
+    """The lines that a program prints."""
+    return subprocess.run(words, stdout=subprocess.PIPE, text=True, check=True).stdout.splitlines()
 
 
 def stripped(path: str) -> bytes:
@@ -222,6 +228,8 @@ def make_folders(folder: str) -> List[str]:
         folder = os.path.dirname(folder)
     for path in reversed(missing):
         os.mkdir(path)
+        # (as each file, for all to read)
+        os.chmod(path, 0o755)
     return missing[::-1]
 
 

@@ -10,12 +10,13 @@ import sys
 import tempfile
 
 sys.dont_write_bytecode = True
+import streams  # noqa: E402
 import sums  # noqa: E402
 from tree import TOP, text_of  # noqa: E402
 
 CRATE = "am_c_replica"
 # What it is made from beside the crate.
-SOURCES = ["install-library", "VERSION", "c/hash_words.h", "c/tiuvrokk.h", "c/tiuvrokk_replica.c", "c/tiuvrokk_replica.h"]
+SOURCES = ["install-library", "VERSION", "c/hash_words.h", "c/heap.c", "c/tiuvrokk.h", "c/tiuvrokk_replica.c", "c/tiuvrokk_replica.h"]
 
 
 def sum_now() -> str:
@@ -39,6 +40,7 @@ def make(place: str) -> int:
 
 def main() -> int:
     """Prints the place, and gives the status."""
+    streams.open_closed()
     place = f"{TOP}/out/libtiuvrokk_replica.so.{text_of('VERSION').partition('.')[0]}"
     sum_then, status = sum_now(), 0
     if not os.path.isfile(place) or sums.noted(place) != sum_then:

@@ -32,10 +32,21 @@ def kit() -> str:
     kept = text_of(KEPT_LINE).split("\n") if os.path.isfile(KEPT_LINE) else []
     if kept[:1] == [this]:
         return kept[1]
-    line = subprocess.run(["rt", "version"], stdin=subprocess.DEVNULL, stdout=subprocess.PIPE, text=True, check=True).stdout.strip()
+    line = told_by(command)
+    if not line or "\n" in line:
+        sys.exit(f"{command} is another program than rt, the Rattle toolchain, which has to come first on the path")
     with contextlib.suppress(OSError):
         write(KEPT_LINE, f"{this}\n{line}\n")
     return line
+
+
+def told_by(command: str) -> str:
+    """What a command tells as its version; nothing where it fails."""
+    try:
+        asked = subprocess.run([command, "version"], stdin=subprocess.DEVNULL, capture_output=True, check=True)
+    except (OSError, subprocess.CalledProcessError):
+        return ""
+    return asked.stdout.decode(errors="replace").strip()
 
 
 def sources_of(crate: str) -> List[str]:

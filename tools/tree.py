@@ -8,6 +8,8 @@ import subprocess
 from typing import Dict, Iterator, List, Optional
 
 TOP = os.path.dirname(os.path.dirname(os.path.abspath(__file__)))
+# What the commands at the top build at their first starts.
+STARTED = ["am_program_alone", "am_program_listen", "am_program_audit", "am_c", "am_c_replica"]
 
 
 def text_of(path: str) -> str:
@@ -45,6 +47,16 @@ def is_static(crate: str) -> bool:
 def is_program(crate: str) -> bool:
     """Whether it has a `main`."""
     return os.path.isfile(f"{TOP}/crates/{crate}/src/main.rt")
+
+
+def lines_of(crate: str) -> int:
+    """The lines of a crate's code."""
+    found = 0
+    for at, _, files in os.walk(f"{TOP}/crates/{crate}/src"):
+        for name in files:
+            with open(f"{at}/{name}", "rb") as file:
+                found += file.read().count(b"\n")
+    return found
 
 
 def sources(*folders: str, kinds: str = "rt antt") -> List[str]:
