@@ -354,6 +354,8 @@ def surroundings_of_all(folder: str) -> None:
         return
     within = mounting(f"mount --bind {tree} {tree} && mount -o remount,bind,ro {tree}")
     refused(repository, "a tree that can't be written", ["Read-only file system", "copy"], within)
+    within = mounting(f"mount -t tmpfs -o size=512k none {repository.meanwhile}")
+    refused(repository, "a small disk for what is needed meanwhile", ["0.0 GB free", "0.1 GB", "TMPDIR"], within)
     os.makedirs(f"{folder}/disk")
     repository.folder = f"{folder}/disk/repository"
     within = mounting(f"mount -t tmpfs -o size=32m none {folder}/disk && cp -a {tree} {folder}/disk")

@@ -12,7 +12,7 @@ import time
 from typing import Any, Dict, List, Tuple
 
 sys.dont_write_bytecode = True
-from support import LIMIT, TOP, Client, Server, alone, audit, fail, wanted  # noqa: E402
+from support import LIMIT, TOP, Client, Server, alone, audit, fail, until, wanted  # noqa: E402
 
 sys.path.insert(0, os.path.join(TOP, "python"))
 import tiuvrokk  # noqa: E402
@@ -88,7 +88,7 @@ def stopped_client(folder: str) -> None:
     begun, locked = out.readline().split(" ", 2)[1:]
     wanted("a client's wide lock", locked, "OK\n")
     process.send_signal(signal.SIGSTOP)
-    time.sleep(1.2)
+    until("a second behind its last line", lambda: [seconds for _, seconds in who(working).values()] == [1])
     tx = int(working.ask("BEGIN").split()[1])
     wanted("beside it", working.ask("INS a 1"), f"BUSY {begun}")
     active = who(working)
@@ -122,19 +122,14 @@ def entries() -> None:
         wanted("their ends", [it.ask(end).split()[0] for it in (one, other)], [{"COMMIT": "COMMITTED", "ABORT": "ABORTED"}[end]] * 2)
         wanted("nobody again", who(asking), {})
     one.ask("BEGIN")
-    time.sleep(1.5)
-    wanted("a second later", who(asking)[numbers[0]][1] >= 1, True)
+    until("a second later", lambda: who(asking)[numbers[0]][1] >= 1)
     one.ask("GET a")
     wanted("young again", who(asking)[numbers[0]][1], 0)
     one.quit()
     wanted("nobody behind QUIT", who(asking), {})
     other.ask("BEGIN")
     other.socket.close()
-    begun = time.monotonic()
-    while who(asking):
-        if time.monotonic() - begun > LIMIT:
-            fail("a lost connection's transaction is told for ever")
-        time.sleep(0.01)
+    until("a lost connection's transaction is told no longer", lambda: not who(asking))
     asking.quit()
     stopped(server)
 
@@ -145,14 +140,14 @@ def all_sessions() -> None:
     asking, silent, holder, waiting = (Client(server.port) for _ in range(4))
     numbers = [number_of(it) for it in (asking, silent, holder, waiting)]
     own, its, holds, waits = numbers
-    time.sleep(1.2)
+    until("a second behind its last line", lambda: served(asking)[its][1] >= 1)
     wanted("the asking one", asking.ask("SEEN").split()[1], str(own))
     told = served(asking)
     wanted("each once", (sorted(told), told[own]), (sorted(numbers), (0, 0, "")))
     wanted("a silent one", (told[its][0], 1 <= told[its][1] <= 1 + MARGIN, told[its][2]), (0, True, ""))
     tx = int(silent.ask("BEGIN").split()[1])
     holder.socket.sendall(b"HOLD 60000\n")
-    time.sleep(0.3)
+    until("who would hold waits", lambda: served(asking)[holds][2] == "w")
     told = served(asking)
     wanted("who has a transaction", told[its], (tx, 0, ""))
     wanted("who would hold", (told[holds][0], told[holds][2]), (0, "w"))
@@ -161,7 +156,7 @@ def all_sessions() -> None:
     wanted("then it holds", holder.reply(), "OK")
     wanted("its own transaction", holder.ask("BEGIN").split()[0], "BEGUN")
     waiting.socket.sendall(b"BEGIN\n")
-    time.sleep(0.3)
+    until("who would begin waits", lambda: served(asking)[waits][2] == "w")
     told = served(asking)
     wanted("who holds", (told[holds][0] > tx, told[holds][2]), (True, "h"))
     wanted("who waits", (told[waits][0], told[waits][2]), (0, "w"))
@@ -218,9 +213,10 @@ def beside_a_hold() -> None:
     wanted("with no wait", time.monotonic() - begun < MARGIN, True)
     wanted("its connection", is_closed(holder), True)
     again = Client(server.port)
+    number = number_of(again)
     again.lines.append("HOLD 60000")
     again.socket.sendall(b"HOLD 60000\n")
-    time.sleep(0.3)
+    until("it waits", lambda: served(outside)[number][2] == "w")
     wanted("who keeps it from holding", list(who(outside)), [number_of(inside)])
     wanted("is ended", outside.ask(f"END {number_of(inside)}"), "OK")
     wanted("then it holds", again.reply(), "OK")
@@ -246,7 +242,7 @@ def nothing_behind_its_end(folder: str) -> None:
         else:
             wanted("a hold", holder.ask("HOLD 60000"), "OK")
         ended.socket.sendall(lines_of)
-        time.sleep(0.3)
+        until(f"one that {how} waits", lambda: served(asking)[number][2] == "w")
         if how == "was killed":
             ended.socket.close()
         begun = time.monotonic()

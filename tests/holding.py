@@ -15,7 +15,7 @@ import time
 from typing import Any, Callable, List, Tuple
 
 sys.dont_write_bytecode = True
-from support import AMLOAD, LIMIT, TOP, Client, Server, alone, audit, wanted  # noqa: E402
+from support import AMLOAD, LIMIT, TOP, Client, Server, alone, audit, until, wanted  # noqa: E402
 
 AMDUMP = os.path.join(TOP, "amdump")
 # A dump whose scans have ten rows, and whose transactions two scans.
@@ -203,19 +203,21 @@ def sent_ahead() -> None:
     stopped(server)
 
 
-def in_order() -> None:
-    """Those that wait go on in the order in which they came."""
+def all_go_on() -> None:
+    """Those that wait, in one order or another, are told to wait, and all go on: by an end of the hold and by its time."""
     server = staying("--workers", "0")
     holder = Client(server.port)
     clients = [Client(server.port) for _ in range(20)]
     for turn in range(3):
-        wanted("a hold", holder.ask("HOLD 20000"), "OK")
-        for client in clients:
+        wanted("a hold", holder.ask("HOLD 2000" if turn == 2 else "HOLD 20000"), "OK")
+        for client in random.Random(turn).sample(clients, len(clients)):
             sent(client, "SEEN")
-            time.sleep(0.02)
+        until("each waits", lambda: holder.ask("WHO ALL").count(":w") == len(clients))
         wanted("none is served", any(not is_silent(client, 0.01) for client in clients), False)
-        wanted("the end", holder.ask_all(["BEGIN", "COMMIT"])[1].split()[0], "COMMITTED")
+        if turn < 2:
+            wanted("the end", holder.ask_all(["BEGIN", "COMMIT"])[1].split()[0], "COMMITTED")
         wanted("each is", {client.reply().split()[0] for client in clients}, {"SEEN"})
+        wanted("none waits", holder.ask("WHO ALL").count(":w"), 0)
     for client in [holder, *clients]:
         client.quit()
     stopped(server)
@@ -401,7 +403,7 @@ def one_too_many(folder: str) -> None:
     wanted("behind one that went away", patient.reply().split()[0], "BEGUN")
     for client in [*clients[1:], patient]:
         client.socket.close()
-    time.sleep(1.5)
+    until("no transaction is active", lambda: last.ask("WHO") == "WHO 0")
     clients = begun(server)
     for client in [*clients, last]:
         client.quit()
@@ -428,7 +430,7 @@ def holds_beside_those_that_wait() -> None:
     wanted("beside those that wait", [is_silent(client, 0.01) for client in late], [True] * 70)
     time.sleep(1)
     wanted("its end", holder.ask("COMMIT").split()[0], "COMMITTED")
-    time.sleep(0.2)
+    until("as many go on as may", lambda: sum(not is_silent(client, 0.002) for client in late) >= MOST_ACTIVE)
     first = [client for client in late if not is_silent(client, 0.002)]
     wanted("then as many go on as may", len(first), MOST_ACTIVE)
     for client in first:
@@ -587,7 +589,7 @@ def main() -> None:
     ends()
     stops()
     sent_ahead()
-    in_order()
+    all_go_on()
     with tempfile.TemporaryDirectory() as folder:
         one_too_many(folder)
     holds_beside_those_that_wait()

@@ -13,7 +13,7 @@ import tempfile
 import time
 from typing import Dict, List, Optional, Sequence, Tuple
 
-from support import AMSERVE, LIMIT, TOP, Server, built, fail, wanted
+from support import AMSERVE, LIMIT, TOP, Server, built, fail, until, wanted
 
 STAY = os.path.join(TOP, "tools", "stay")
 # It says where it listens, keeps its trace, and ends at a line STOP.
@@ -77,9 +77,9 @@ def two_at_once(program: str, folder: str) -> None:
     trace, tools = os.path.join(folder, "one"), os.path.join(folder, "tools")
     write(trace, "before\n")
     os.mkdir(tools)
-    write(os.path.join(tools, "flock"), '#!/bin/sh\nsleep 1\nPATH=${PATH#*:}\nexec flock "$@"\n', 0o755)
+    write(os.path.join(tools, "flock"), f'#!/bin/sh\n>"{tools}/begun"\nsleep 1\nPATH=${{PATH#*:}}\nexec flock "$@"\n', 0o755)
     late = started(program, "--trace", trace, env={**os.environ, "PATH": f"{tools}:{os.environ['PATH']}"})
-    time.sleep(0.3)
+    until("the late one has opened the file", lambda: os.path.exists(os.path.join(tools, "begun")))
     first = started(program, "--trace", trace)
     wanted("the late one", ended(late, None), (4, "", f"amserve: {trace}: another server writes it\n{UNWRITTEN}"))
     wanted("the first one", ended(first), (0, "CLOSED 0 0\n", ""))

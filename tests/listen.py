@@ -15,7 +15,7 @@ from typing import Any, Callable, Iterable, List, Optional, Sequence, Tuple
 
 sys.dont_write_bytecode = True
 from other_protocols import CONNECTIONS, other_protocols  # noqa: E402
-from support import AMAUDIT, AMSERVE, LIMIT, TOP, Client, Server, audit, built, fail, random_line, tcp_sockets, wanted  # noqa: E402
+from support import AMAUDIT, AMSERVE, LIMIT, TOP, Client, Server, audit, built, fail, program, random_line, tcp_sockets, until, wanted  # noqa: E402
 
 
 def serve(sessions: int, workers: int, trace: Optional[str] = None, stop: bool = False, words: Sequence[str] = (), **how: Any) -> Server:
@@ -625,7 +625,7 @@ def killed_server(folder: str) -> None:
     client = Client(server.port)
     for number in range(100):
         client.ask_all(["BEGIN", f"INS {number} v", "COMMIT"])
-    time.sleep(0.5)
+    until("all commits are in the file", lambda: "".join(trace_lines(f"{trace}.part")).count("| COMMITTED ") == 100)
     server.process.kill()
     server.process.wait()
     wanted("the file", trace_lines(trace), ["as it was"])
@@ -634,24 +634,33 @@ def killed_server(folder: str) -> None:
 
 
 def few_files() -> None:
-    """Few files may be open: some connections are accepted, and the next one is not."""
+    """Few files may be open: as many connections are accepted as there are files for, which are served to their end, and the
+    next one is told nothing."""
     server = serve(64, 0, preexec_fn=files_at_most(12))
-    clients = []
+    most = 12 - len(os.listdir(f"/proc/{program(server)}/fd"))
+    clients = [Client(server.port) for _ in range(most)]
+    wanted("sessions", [client.ask("BEGIN") for client in clients], [f"BEGUN {number}" for number in range(1, most + 1)])
+    with socket.create_connection(("127.0.0.1", server.port), timeout=1) as late:
+        late.sendall(b"BEGIN\n")
+        try:
+            fail(f"one connection more is told {late.recv(100)!r}")
+        except TimeoutError:
+            pass
+        wanted("lines of the others", [client.ask("GET a") for client in clients], ["NONE"] * most)
+        for client in clients:
+            client.quit()
+        out, said = server.end(3)
+        why = "amserve: a connection: Too many open files (os error 24)\namserve: cannot accept\n"
+        wanted("where a connection can't be accepted", (out, said), (f"CLOSED {3 * most} 0\n", why))
+        wanted("the end of that connection", heard_last(late), b"")
+
+
+def heard_last(late: socket.socket) -> bytes:
+    """What a connection is told whose server has ended; nothing, too, where its own bytes were never read."""
     try:
-        for _ in range(64):
-            client = Client(server.port)
-            client.socket.settimeout(20)
-            client.ask("BEGIN")
-            clients.append(client)
-    except (OSError, SystemExit):
-        pass
-    for client in clients:
-        client.quit()
-    out, said = server.end(3)
-    why = "amserve: a connection: Too many open files (os error 24)\namserve: cannot accept\n"
-    wanted("where a connection can't be accepted", said, why)
-    if not clients or not out.startswith("CLOSED"):
-        fail(f"the sessions begun were not served to their end: {out!r}")
+        return late.recv(100)
+    except ConnectionResetError:
+        return b""
 
 
 def speakers_of_others() -> None:

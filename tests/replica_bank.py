@@ -81,8 +81,9 @@ class Teller:
                 self.dice.choices(kinds, (14, 3, 2, 1))[0](self.client)
             except OSError:
                 self.lost()
-            except (IndexError, ValueError) as fault:
+            except BaseException as fault:  # (a thread that ends says nothing by itself)
                 self.bank.wrong.append(f"{self.key}: {fault!r}")
+                return
 
     def lost(self) -> None:
         """The replica went away."""

@@ -16,7 +16,7 @@ from typing import Any, Callable, Dict, List, Optional, Sequence, Set, Tuple, Un
 
 sys.dont_write_bytecode = True
 from other_protocols import other_protocols  # noqa: E402
-from support import AMAUDIT, AMSERVE, LIMIT, Client, Server, audit, built, fail, program, tcp_sockets, wanted  # noqa: E402
+from support import AMAUDIT, AMSERVE, LIMIT, Client, Server, audit, built, fail, program, tcp_sockets, until, wanted  # noqa: E402
 
 
 def stay(*words: str, trace: Optional[str] = None, **how: Any) -> Server:
@@ -37,6 +37,12 @@ def stopped(server: Server, status: int = 0) -> Tuple[int, int, str]:
 def open_audit(trace: str) -> str:
     """What the auditor says of the whole lines of a run that isn't ended."""
     return subprocess.run([AMAUDIT, "--open", trace], capture_output=True, text=True, timeout=LIMIT, check=False).stdout.strip()
+
+
+def commits_in(trace: str) -> int:
+    """The commits that stand in the file of a trace."""
+    with open(trace, "rb") as file:
+        return file.read().count(b"| COMMITTED ")
 
 
 def one_session(port: int, key: str) -> None:
@@ -225,10 +231,7 @@ def many_connections(trace: str, count: int) -> None:
     server = stay(trace=trace)
     for number in range(count):
         one_session(server.port, f"a{number}")
-    time.sleep(0.5)
-    with open(trace, "rb") as file:
-        text = file.read()
-    wanted("the commits that stand in the file of an idle server", text.count(b"| COMMITTED "), count)
+    until("the commits stand in the file of an idle server", lambda: commits_in(trace) == count)
     threads = [threading.Thread(target=patient_session, args=(server.port, f"b{number}")) for number in range(200)]
     for thread in threads:
         thread.start()
@@ -246,10 +249,10 @@ def bounded_memory(trace: str, first: int, further: int) -> None:
     for words in ("", f"--trace {trace}"):
         server = stay("--sessions", "8", *words.split())
         asked_often(server, first)
-        time.sleep(0.3)
+        await_rest(server)
         before = memory(server)
         asked_often(server, further)
-        time.sleep(0.3)
+        await_rest(server)
         after = memory(server)
         # (450 bytes each of 200,000 steps would be 90 MB)
         if after > before + 20_000:
@@ -631,8 +634,8 @@ def closed_from_the_first_moment(path: str) -> None:
     """Nobody else may open a server's socket, not even between its making and its first session."""
     modes: Set[int] = set()
     running = subprocess.Popen([AMSERVE, "listen", "--port", "0", "--stay", "--socket", path], stdin=subprocess.DEVNULL, stdout=subprocess.PIPE, text=True)
-    until = time.monotonic() + LIMIT
-    while time.monotonic() < until and len(modes) < 1000 and running.poll() is None:
+    end = time.monotonic() + LIMIT
+    while time.monotonic() < end and len(modes) < 1000 and running.poll() is None:
         try:
             modes.add(os.stat(path).st_mode & 0o777)
         except FileNotFoundError:
@@ -752,11 +755,13 @@ def no_files_left() -> None:
         resource.setrlimit(resource.RLIMIT_NOFILE, (12, 12))
 
     server = stay("--sessions", "32", program=(built("am_program_listen"),), preexec_fn=few)
+    files = f"/proc/{server.process.pid}/fd"
+    own = len(os.listdir(files))
     clients = [socket.create_connection(("127.0.0.1", server.port), timeout=LIMIT) for _ in range(20)]
-    time.sleep(1)
+    until("as many files are open as may", lambda: len(os.listdir(files)) == 12)
     for client in clients:
         client.close()
-    time.sleep(0.5)
+    until("all connections have ended", lambda: len(os.listdir(files)) == own)
     one_session(server.port, "a")
     wanted("what was said", stopped(server)[2], "amserve: a connection: Too many open files (os error 24)\namserve: cannot accept\n")
 

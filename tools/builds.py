@@ -35,6 +35,7 @@ def by_known_kit(crates: List[str], keeps: bool) -> int:
     """Builds them by the inside of the kit, or else as any kit does."""
     # (what the kit makes meanwhile, and would leave where it is ended, is let go with its folder)
     with rooms.room(tempfile.gettempdir()) as meanwhile:
+        surroundings.look_at_room(os.path.dirname(meanwhile), surroundings.LEAST_ROOM)
         words = [sys.executable, KNOWN_KIT, *[KEEP] * keeps, *crates]
         with children.child(words, env={**os.environ, "TMPDIR": meanwhile}) as running:
             status = running.wait()

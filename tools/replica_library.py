@@ -43,10 +43,14 @@ def main() -> int:
     streams.open_closed()
     place = f"{TOP}/out/libtiuvrokk_replica.so.{text_of('VERSION').partition('.')[0]}"
     sum_then, status = sum_now(), 0
-    if not os.path.isfile(place) or sums.noted(place) != sum_then:
-        status = make(place)
-        if not status:
-            sums.note(place, sum_then)
+    try:
+        if not os.path.isfile(place) or sums.noted(place) != sum_then:
+            status = make(place)
+            if not status:
+                sums.note(place, sum_then)
+    except OSError as error:
+        print(f"tools/replica_library.py: {error.filename or place}: {error.strerror or 'failed'}", file=sys.stderr)
+        return 1
     if not status:
         print(place)
     return status
