@@ -2,7 +2,8 @@
 """Programs and a library for C of a small repository (tests/small), built by each of the two ways: that for kits that
 tools/known_kit.py knows, and that for any kit, here a copy of the kit at hand whose inside has other names. What is built is of
 the sources that stand there, whatever their times are. Nothing is built that the gate would refuse, and nothing is left behind
-by a build that was refused or ended. What a terminal is told of how far a build is."""
+by a build that was refused or ended. What a machine lacks is told before anything is proved. What a terminal is told of how far
+a build is."""
 
 import contextlib
 import os
@@ -20,6 +21,7 @@ from support import TOP, until, wanted  # noqa: E402
 sys.path.insert(0, f"{TOP}/tools")
 import layout  # noqa: E402
 import progress  # noqa: E402
+from tree import STARTED  # noqa: E402
 
 SMALL = f"{TOP}/tests/small"
 # Seconds that a build may take on a machine with much else to do, that one may take to end, and that a start without one may take
@@ -350,6 +352,12 @@ def surroundings_of_all(folder: str) -> None:
         os.symlink(f"{TOP}/{name}", f"{folder}/{name}-link")
         run = subprocess.run([f"{folder}/{name}-link", "--help"], capture_output=True, text=True, check=False)
         wanted(f"{name} by a link: {run.stderr}", (run.returncode, run.stdout[:6]), (0, "usage:"))
+    with open(f"{folder}/file", "w", encoding="ascii") as file:
+        file.write("no folder\n")
+    for program in (f"{tree}/install-library", f"{TOP}/install"):
+        run = subprocess.run([program, f"{folder}/file/below"], capture_output=True, text=True, check=False)
+        found = (run.returncode, run.stdout, run.stderr.count("\n"), "below which you may write" in run.stderr)
+        wanted(f"where {program} can't write: {run.stderr}", found, (1, "", 1, True))
     if not may_mount():
         return
     within = mounting(f"mount --bind {tree} {tree} && mount -o remount,bind,ro {tree}")
@@ -410,6 +418,22 @@ def may_mount() -> bool:
     return False
 
 
+def built_by_one_call(folder: str) -> None:
+    """./install and ./package have all that they need built by one call. What builds is a stand-in."""
+    if shutil.which("strip") is None:
+        print("building: no strip here, so nothing can be installed")
+        return
+    shutil.copytree(f"{TOP}/tools", f"{folder}/tools")
+    echoes = 'for it in "$@"; do echo /bin/true; done'
+    for name, body in (("built.py", f'echo "$@" >>calls; {echoes}'), ("replica_library.py", "echo /bin/true")):
+        replace(f"{folder}/tools/{name}", f"#!/bin/sh\n{body}\n")
+    asked = "import sys; sys.path.insert(0, 'tools'); import layout; print(*layout.built_programs(None))"
+    run = subprocess.run([sys.executable, "-B", "-c", asked], cwd=folder, stdout=subprocess.PIPE, text=True, check=True)
+    wanted("programs", run.stdout.split(), [*layout.PROVED, layout.REPLICA])
+    with open(f"{folder}/calls", encoding="ascii") as file:
+        wanted("calls", file.read(), f"{' '.join(STARTED)}\n")
+
+
 def open_to_all(folder: str) -> None:
     """What ./install writes is for all to read, whatever root's mask is."""
     before = os.umask(0o077)
@@ -460,7 +484,8 @@ def without_kit(folder: str) -> None:
 def main() -> None:
     """All of it."""
     told_at_a_terminal()
-    parts: List[Callable[[str], None]] = [without_kit, open_to_all, surroundings_of_all, surroundings_of_any_kit]
+    parts: List[Callable[[str], None]] = [without_kit, built_by_one_call, open_to_all]
+    parts += [surroundings_of_all, surroundings_of_any_kit]
     for part in [*parts, known_by_its_line_alone, by_known_kit, by_any_kit]:
         with tempfile.TemporaryDirectory() as folder:
             part(folder)
