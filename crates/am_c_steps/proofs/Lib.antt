@@ -3,4 +3,5 @@ mod Layouts
 mod PairsGiven
 mod Rows
 mod Sources
+mod StructCopies
 mod Wholes

@@ -1,10 +1,10 @@
 -- Structs that stand there whole all have a record.
-use Rattle.std.proofs.Common.{◌≡◌, ℕ, zero, suc, ◌+◌, ◌*◌, ◌≤◌, ◌<◌, List, [], ◌∷◌, take, drop, length, get_or, Ok, Err}
-use Rattle.std.proofs.Common.{refl, sym, ap, ◌∙◌, arith, mul-le-mul_right}
+use Rattle.std.proofs.Common.{◌≡◌, ℕ, zero, suc, ◌+◌, ◌*◌, ◌≤◌, ◌<◌, List, [], ◌∷◌, ◌++◌, take, drop, length, get_or}
+use Rattle.std.proofs.Common.{Ok, Err, refl, sym, ap, ◌∙◌, arith, mul-le-mul_right}
 use Rattle.std.specs.Prelude.{true, cond, nat_le}
 use Rattle.std.proofs.Math.Nat.{suc-mul}
 use Rattle.std.proofs.lemmas.Bool.{le-leb}
-use Rattle.std.proofs.lemmas.List.{length-take, length-drop, drop-drop}
+use Rattle.std.proofs.lemmas.List.{length-take, length-drop, drop-drop, take_all, take-append-le, drop-append-le}
 use Rattle.am_record.specs.Limits.{max_key_bytes, max_value_bytes}
 use Rattle.am_record.specs.OrderedKey.{OrderedKey, key_of}
 use Rattle.am_record.specs.Plain.{Records}
@@ -18,11 +18,11 @@ abbrev Pair : Type 0
 Pair = OrderedKey × List ℕ
 
 -- the record of a struct of these bytes
-abbrev record_of : Layout → List ℕ → Pair
+abbrev pub record_of : Layout → List ℕ → Pair
 record_of l bytes = (key_of (take l.key_length (drop l.key_at bytes)), take l.value_length (drop l.value_at bytes))
 
 -- the records of so many structs
-abbrev records_of : Layout → List ℕ → ℕ → Records
+abbrev pub records_of : Layout → List ℕ → ℕ → Records
 records_of l bytes zero = []
 records_of l bytes (suc n) = record_of l (take l.size bytes) ∷ records_of l (drop l.size bytes) n
 
@@ -52,6 +52,20 @@ stands_at l bytes (suc n) (suc at) d low =
     ∙ ap (λ bs. record_of l (take l.size bs)) (sym (drop-drop (at * l.size) l.size bytes))
     ∙ stands_at l (drop l.size bytes) n at d (omega arith)
 
+-- one struct more
+pub copied_more : (l : Layout) (copied one : List ℕ) (i : ℕ) → length copied ≡ i * l.size → length one ≡ l.size →
+    records_of l (copied ++ one) (suc i) ≡ records_of l copied i ++ record_of l one ∷ []
+copied_more l [] one zero long whole =
+    ap (λ bs. record_of l bs ∷ []) (take_all l.size one (omega (arith, whole)))
+copied_more l (b ∷ copied) one zero long whole = absurd (omega (arith, long))
+copied_more l copied one (suc i) long whole =
+    let front : l.size ≤ length copied = omega (arith, long, suc-mul i l.size) in
+    let rest : length (drop l.size copied) ≡ i * l.size =
+    omega (arith, long, suc-mul i l.size, length-drop l.size copied) in
+    let others = ap (λ bs. records_of l bs (suc i)) (drop-append-le l.size copied one front)
+    ∙ copied_more l (drop l.size copied) one i rest whole in
+    (λ j. record_of l (take-append-le l.size copied one front j) ∷ others j)
+
 module _ (l : Layout) (sound : IsLayout l) where
   key_made : (bytes : List ℕ) → l.size ≤ length bytes → struct_key l bytes ≡ Ok (record_of l bytes).0
   key_made bytes whole =
@@ -79,7 +93,7 @@ module _ (l : Layout) (sound : IsLayout l) where
       (all_made (drop l.size bytes) n (rest_whole l.size n bytes whole) j)
 
 module _ (l : Layout) (bytes : List ℕ) (n : ℕ) (are : AreWholeStructs l bytes n) where
-  given : structs_given l bytes n ≡ Ok (records_of l bytes n)
+  pub given : structs_given l bytes n ≡ Ok (records_of l bytes n)
   given = all_made l are.layout bytes n are.whole
 
   pub all_given : structs_given l bytes n ≡ Ok (records_given (structs_given l bytes n))
@@ -100,7 +114,7 @@ module _ (l : Layout) (bytes : List ℕ) (n : ℕ) (are : AreWholeStructs l byte
       pub lies_there : at * l.size + l.size ≤ length bytes
       lies_there = omega (arith, are.whole, suc-mul at l.size, mul-le-mul_right l.size below)
 
-      whole_at : l.size ≤ length (struct_at l bytes at)
+      pub whole_at : l.size ≤ length (struct_at l bytes at)
       whole_at = omega (
         arith,
         lies_there,
@@ -108,7 +122,7 @@ module _ (l : Layout) (bytes : List ℕ) (n : ℕ) (are : AreWholeStructs l byte
         length-drop (at * l.size) bytes,
       )
 
-      there : (d : Pair) → record_of l (struct_at l bytes at) ≡ get_or records at d
+      pub there : (d : Pair) → record_of l (struct_at l bytes at) ≡ get_or records at d
       there d = stands_at l bytes n at d below ∙ ap (λ rs. get_or rs at d) same
 
       pub record_at : (d : Pair) → struct_given l (struct_at l bytes at) ≡ Ok (get_or records at d)

@@ -6,8 +6,9 @@ ghost use Rattle.am_c_steps.specs.AskedSteps.{pairs_given};
 
 use crate::status::Status;
 use crate::text::Record;
-use am_record::{Key, Value};
-use am_store_runs::RecordSource;
+use am_record::{Key, Records, Value};
+use am_store_runs::{Arrange, RecordSource, Spot};
+use std::alloc::Global;
 use std::marker::Model;
 
 /// Records of the caller's that all have a key and a value, seen as these. They are read where they lie.
@@ -64,6 +65,14 @@ impl<'a> RecordSource for GivenRecords<'a> {
             unreachable!()
         };
         pair
+    }
+}
+
+impl<'a> Arrange for GivenRecords<'a> {
+    type Copied = Records;
+
+    fn arranged(&self, _alloc: Global, _spots: &[Spot]) -> Option<Records> {
+        None
     }
 }
 

@@ -9,6 +9,7 @@ mod lines;
 mod load_answers;
 mod status;
 mod structs;
+mod structs_copy;
 mod text;
 
 pub use answers::{tell_key, tell_rows, tell_rows_behind, tell_value};

@@ -9,8 +9,8 @@ ghost use Rattle.am_c_steps.specs.Lines.{AreLineStarts};
 
 use crate::status::Status;
 use crate::text::{key_given, value_given};
-use am_record::{Key, Value};
-use am_store_runs::RecordSource;
+use am_record::{Key, Records, Value};
+use am_store_runs::{Arrange, RecordSource, Spot};
 use std::alloc::Global;
 use std::marker::Model;
 
@@ -84,6 +84,14 @@ impl<'a> RecordSource for GivenLines<'a> {
             unreachable!()
         };
         pair
+    }
+}
+
+impl<'a> Arrange for GivenLines<'a> {
+    type Copied = Records;
+
+    fn arranged(&self, _alloc: Global, _spots: &[Spot]) -> Option<Records> {
+        None
     }
 }
 

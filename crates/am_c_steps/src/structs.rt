@@ -5,6 +5,7 @@ ghost use Rattle.std.specs.Prelude.{IsSome, IfSome, OnOk, IfErr, Ok, Err};
 ghost use Rattle.am_c_steps.specs.declared.status.Status.TheVariants.{NoMemory};
 ghost use Rattle.am_c_steps.specs.AskedSteps.{IsCopied};
 ghost use Rattle.am_c_steps.specs.Structs.{struct_key, struct_value, struct_given, structs_given, struct_at, IsLayout};
+ghost use Rattle.am_c_steps.specs.Structs.{records_given};
 
 use crate::status::Status;
 use crate::text::{key_given, value_given};
@@ -64,7 +65,7 @@ impl Layout {
     }
 
     // The bytes of the struct at the place.
-    fn struct_at<'a>(&self, structs: &'a [u8], at: usize) -> &'a [u8]
+    pub(crate) fn struct_at<'a>(&self, structs: &'a [u8], at: usize) -> &'a [u8]
         requires { at * self.now.size + self.now.size ≤ length structs.now }
         ensures { result.now ≡ struct_at self.now structs.now at }
     {
@@ -83,9 +84,9 @@ fn lies_within(at: usize, length: usize, size: usize) -> bool
 /// Structs that all have a key and a value, seen as their records. They are read where they lie.
 #[derive(Drop)]
 pub struct Structs<'a> {
-    bytes: &'a [u8],
-    count: usize,
-    layout: Layout,
+    pub(crate) bytes: &'a [u8],
+    pub(crate) count: usize,
+    pub(crate) layout: Layout,
 }
 
 impl<'a> Model for Structs<'a> {
@@ -117,6 +118,18 @@ impl<'a> Structs<'a> {
             count,
             layout: *layout,
         })
+    }
+
+    /// So many structs that stand there whole.
+    pub(crate) fn of_whole(structs: &'a [u8], count: usize, layout: Layout) -> Structs<'a>
+        requires { AreWholeStructs layout structs.now count }
+        ensures { result ≡ records_given (structs_given layout structs.entry.now count) }
+    {
+        Structs {
+            bytes: structs,
+            count,
+            layout,
+        }
     }
 }
 

@@ -16,11 +16,11 @@ use am_c_steps::{
 use am_index_btree::BTree;
 use am_record::{MAX_RUN_RECORDS, Records, Refusal, Reply, Step};
 use am_store::Store;
-use am_store_runs::{Cut, Ordered, RecordSource, cut_source};
+use am_store_runs::{Arrange, Cut, Ordered, RecordSource, cut_source};
 use std::alloc::Global;
 
 /// Loads what was given, and tells how that ended.
-pub fn tell_runs<S: RecordSource + Drop>(
+pub fn tell_runs<S: Arrange + Drop>(
     alloc: Global,
     store: &mut Handle,
     tx: u64,
@@ -53,7 +53,7 @@ struct Loaded {
 
 // Loads what was given, run after run, until one is refused.
 #[inline(never)]
-fn load_given<S: RecordSource + Drop>(
+fn load_given<S: Arrange + Drop>(
     alloc: Global,
     handle: &mut Handle,
     tx: u64,
@@ -85,7 +85,7 @@ fn not_loaded(failure: LoadFailure) -> Loaded
 }
 
 // Loads the records of a source. Of none the store is asked for a run of none, which it refuses.
-fn load_source<S: RecordSource>(
+fn load_source<S: Arrange>(
     alloc: Global,
     store: &mut Box<Store<BTree>>,
     tx: u64,
@@ -119,7 +119,7 @@ fn load_none(alloc: Global, store: &mut Box<Store<BTree>>, tx: u64, bringing: Br
 }
 
 // Each run by a step of its own: how many records were brought in, and the last reply.
-fn load_in_turn<S: RecordSource>(
+fn load_in_turn<S: Arrange>(
     alloc: Global,
     store: &mut Box<Store<BTree>>,
     tx: u64,
@@ -142,8 +142,9 @@ fn load_in_turn<S: RecordSource>(
     (records, Reply::Done)
 }
 
-// Brings a run in. A load reads its records where they lie; a put has some of its own, which it parts.
-fn bring<S: RecordSource>(
+// Brings a run in. A load reads its records where they lie, or as its source copied them; a put has some of its own,
+// which it parts.
+fn bring<S: Arrange>(
     alloc: Global,
     store: &mut Box<Store<BTree>>,
     tx: u64,
@@ -154,7 +155,10 @@ fn bring<S: RecordSource>(
     ensures { Brings store.old.value tx bringing run.now result store.new.value }
 {
     match bringing {
-        Bringing::Load => load_there(store, tx, run),
+        Bringing::Load => match run.arranged(alloc) {
+            Some(copied) => load_there(store, tx, &copied),
+            None => load_there(store, tx, run),
+        },
         Bringing::Put => {
             let Ok(run) = run.to_run(alloc) else {
                 return Reply::Refused(Refusal::NoMemory);

@@ -4,6 +4,7 @@
 //! they lie. Keys are compared only where two of these numbers are equal.
 #![tactic(auto)]
 
+mod arrange;
 mod cut;
 mod fault;
 mod fronts;
@@ -13,7 +14,9 @@ mod run;
 mod ties;
 
 pub use am_index::RecordSource;
+pub use arrange::Arrange;
 pub use cut::{Cut, cut_runs, cut_source};
 pub use fault::LoadFault;
 pub use ordered::Ordered;
+pub use record_order::Spot;
 pub use run::Run;

@@ -1,8 +1,9 @@
 //! Records in an order.
 
-ghost use Rattle.std.specs.Prelude.{◌≡◌, IfOk};
+ghost use Rattle.std.specs.Prelude.{◌≡◌, IfOk, IfSome};
 ghost use Rattle.am_store_runs.specs.RecordPlaces.{records_at, IsOrder};
 
+use crate::arrange::Arrange;
 use crate::record_order::{Spot, gather};
 use crate::run::Run;
 use am_index::RecordSource;
@@ -49,6 +50,15 @@ impl<'a, S: RecordSource> Ordered<'a, S> {
         ensures { IfOk result (λ run. run ≡ self.now) }
     {
         Ok(Run::of_rising(gather(alloc, self.source, self.spots)?))
+    }
+}
+
+impl<'a, S: Arrange> Ordered<'a, S> {
+    /// The same records, copied as they lie, where the source has them so copied.
+    pub fn arranged(&self, alloc: Global) -> Option<S::Copied>
+        ensures { IfSome result (λ copied. S.Copied.records copied ≡ self.now) }
+    {
+        self.source.arranged(alloc, self.spots)
     }
 }
 

@@ -13,11 +13,13 @@ use am_index::RecordSource;
 use am_record::{Key, Value, fronts_follow_keys};
 use std::alloc::{AllocError, Global};
 
-/// Names a record: where it stands, with the number of its key's first eight bytes.
+/// Names a record of a source.
 #[derive(Clone, Copy)]
-pub(crate) struct Spot {
-    pub(crate) front: u64,
-    pub(crate) place: usize,
+pub struct Spot {
+    /// The number of its key's first eight bytes.
+    pub front: u64,
+    /// Where it stands.
+    pub place: usize,
 }
 
 impl Spot {
