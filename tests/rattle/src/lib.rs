@@ -1,6 +1,7 @@
 //! Worked examples of the crates: of records, indexes, partitions, filters, loads, scans, locks, what is undone, transactions,
-//! merges, the plain map, structs of C, lines, replies, streams, stored traces with their audits and command lines; of steps and
-//! lines that take several crates; of a long history; and of seats, words and workers on threads, clients of a server, and replicas.
+//! merges, the plain map, structs of C, lines, replies, redis's protocol, streams, stored traces with their audits and command
+//! lines; of steps and lines that take several crates; of a long history; and of seats, words and workers on threads, clients of
+//! a server, and replicas.
 //!
 //! They are run by the kit's checked build, and not proved. Their files end in `.rs`, so that the gate doesn't read them.
 #![tactic(auto)]
@@ -53,6 +54,8 @@ mod replica_texts;
 mod replicas;
 mod replies;
 mod requests;
+mod resp_pieces;
+mod resp_texts;
 mod rooms;
 mod rows;
 mod runs;

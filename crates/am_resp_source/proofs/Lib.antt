@@ -1,0 +1,4 @@
+pub mod Fronts
+pub mod LineReadings
+pub mod Steps
+pub mod Wholes

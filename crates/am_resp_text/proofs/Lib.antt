@@ -1,0 +1,11 @@
+pub mod FirstCr
+pub mod Cuts
+pub mod RequestTexts
+pub mod Beginnings
+pub mod Signs
+pub mod PartTexts
+pub mod AnswerTexts
+pub mod Continuations
+pub mod CountReadings
+pub mod WordReadings
+pub mod RequestReadings
