@@ -1,6 +1,7 @@
 /* Readers beside a batch a second, and writers beside dumps. Built and run by bench/beside.py.
 
    beside lines PORT READERS get|scan BATCH LOADS LEAD    readers at `amserve listen`, for LEAD seconds alone, then beside loads
+   beside lines PORT READERS mixed BATCH LOADS LEAD       each fourth of them reads in one way, by whose name its lines end
    beside sqlite FILE READERS get|scan BATCH LOADS LEAD   the same over a file of SQLite in WAL mode, a connection for each thread
    beside writers PORT WRITERS ACCOUNTS                   transfers between accounts, until standard input ends
 
@@ -23,12 +24,27 @@
 
 enum { OLD = 200000, GAP = 1000, KEY = 10, ROWS = 100, STAGED = 200, MOST_TRIES = 1000, THOUGHT_MICROS = 1000 };
 
+/* How a reader reads: one record, or a hundred from a key on, where a narrow scan asks for few that it doesn't get. At
+   which old keys: so many from one on. And how long it thinks in between: cold readers come to each place so seldom
+   that they have little merged. */
+enum kind { GET, SCAN, NARROW_SCAN };
+struct way { const char *name; enum kind kind; int from, count, micros; };
+static const struct way gets = {"", GET, 0, OLD, THOUGHT_MICROS}, scans = {"", SCAN, 0, OLD, THOUGHT_MICROS};
+static const struct way mixed[] = {
+    {" hot_get", GET, OLD / 2, OLD / 100, THOUGHT_MICROS},
+    {" cold_get", GET, 0, OLD, 50 * THOUGHT_MICROS},
+    {" hot_scan", NARROW_SCAN, OLD / 2, OLD / 100, THOUGHT_MICROS},
+    {" cold_scan", NARROW_SCAN, 0, OLD, 50 * THOUGHT_MICROS},
+};
+
 struct event { double at, took; };
-struct worker { pthread_t thread; int number, refusals; struct event *events; size_t count, room; };
+struct worker { pthread_t thread; int number, refusals; const struct way *way; struct event *events; size_t count, room; };
 
 static const char *place;
-static int is_sqlite, is_scan, batch, accounts;
-static volatile int is_over;
+static int is_sqlite, batch, accounts;
+static const struct way *ways;
+static int way_count = 1;
+static volatile int is_over, loads_done;
 static double started;
 
 static double now(void) {
@@ -181,13 +197,23 @@ static void load_server(int load, double at) {
         rest(0.05);
     }
     printf("L %.6f %.6f %d\n", at, now() - at, tries);
+    loads_done++;
     free(text);
+}
+
+/* The line by which a reader reads from an old key on. A narrow scan ends where about a hundred records have come. */
+static void read_line(char *to, enum kind kind, int number) {
+    char key[32], end[32];
+    old_key(key, number);
+    old_key(end, number + 1 + (int)((long)ROWS * OLD / (OLD + (long)loads_done * batch)));
+    if (kind == GET) sprintf(to, "GET %s\n", key);
+    else sprintf(to, "SCAN %s %s %d\n", key, kind == SCAN ? "z" : end, ROWS);
 }
 
 /* Whether the store answered, and no other had a lock in the way. */
 static int is_read(struct session *s, const char *line) {
     wanted(s, "BEGIN\n", "BEGUN");
-    if (!is_answered(s, line, is_scan ? "ROWS" : "VAL")) {
+    if (!is_answered(s, line, *line == 'S' ? "ROWS" : "VAL")) {
         if (strncmp(s->answer, "BUSY", 4)) fail(line, s->answer);
         wanted(s, "ABORT\n", "ABORTED");
         return 0;
@@ -201,16 +227,15 @@ static void *read_server(void *given) {
     struct session *s = with_server();
     unsigned dice = (unsigned)me->number + 1;
     while (!is_over) {
-        char line[64], key[32];
+        char line[96];
         double at = now();
-        old_key(key, (int)(rand_r(&dice) % OLD));
-        sprintf(line, is_scan ? "SCAN %s z %d\n" : "GET %s\n", key, ROWS);
+        read_line(line, me->way->kind, me->way->from + (int)(rand_r(&dice) % (unsigned)me->way->count));
         while (!is_read(s, line)) {
             me->refusals++;
             rest(THOUGHT_MICROS / 1e6);
         }
         note(me, at);
-        rest(THOUGHT_MICROS / 1e6);
+        rest(me->way->micros / 1e6);
     }
     wanted(s, "QUIT\n", "BYE");
     return NULL;
@@ -323,7 +348,7 @@ static void *read_sqlite(void *given) {
     unsigned dice = (unsigned)me->number + 1;
     sqlite3 *db = opened();
     sqlite3_stmt *begin = statement(db, "BEGIN"), *commit = statement(db, "COMMIT");
-    sqlite3_stmt *query = statement(db, is_scan ? "SELECT k, v FROM records WHERE k >= ? ORDER BY k LIMIT 100" : "SELECT v FROM records WHERE k = ?");
+    sqlite3_stmt *query = statement(db, me->way->kind == SCAN ? "SELECT k, v FROM records WHERE k >= ? ORDER BY k LIMIT 100" : "SELECT v FROM records WHERE k = ?");
     while (!is_over) {
         char key[32];
         int rows = 0, last;
@@ -359,6 +384,7 @@ static struct worker *begun(int count, void *(*work)(void *)) {
     memset(workers, 0, (size_t)count * sizeof *workers);
     for (int i = 0; i < count; i++) {
         workers[i].number = i;
+        workers[i].way = &ways[i % way_count];
         if (pthread_create(&workers[i].thread, NULL, work, &workers[i])) fail("thread", "none");
     }
     return workers;
@@ -371,7 +397,7 @@ static void end(struct worker *workers, int count) {
         pthread_join(workers[i].thread, NULL);
         refusals += workers[i].refusals;
         for (size_t event = 0; event < workers[i].count; event++)
-            printf("R %.6f %.6f\n", workers[i].events[event].at, workers[i].events[event].took);
+            printf("R %.6f %.6f%s\n", workers[i].events[event].at, workers[i].events[event].took, workers[i].way->name);
     }
     printf("B %d\n", refusals);
 }
@@ -406,6 +432,7 @@ static void fill_accounts(void) {
 int main(int count, char **words) {
     if (count < 5) fail("words", "WAY PLACE COUNT ..");
     place = words[2];
+    ways = &gets;
     if (!strcmp(words[1], "writers")) {
         accounts = atoi(words[4]);
         fill_accounts();
@@ -417,7 +444,11 @@ int main(int count, char **words) {
     }
     if (count < 8) fail("words", "WAY PLACE READERS KIND BATCH LOADS LEAD");
     is_sqlite = !strcmp(words[1], "sqlite");
-    is_scan = !strcmp(words[4], "scan");
+    if (!strcmp(words[4], "scan")) ways = &scans;
+    if (!strcmp(words[4], "mixed")) {
+        ways = mixed;
+        way_count = (int)(sizeof mixed / sizeof *mixed);
+    }
     batch = atoi(words[5]);
     beside_loads(atoi(words[3]), atoi(words[6]), atof(words[7]));
     return 0;

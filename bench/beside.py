@@ -4,7 +4,12 @@
 Over 200,000 old records a load of 20,000 or 65,536 new ones, spread evenly between them, comes in each second, 20 in all, beside
 readers that read a key, or scan a hundred, in a transaction each, and think for a millisecond. Each load holds, as amload does. Where
 SQLite's header is there (Debian: libsqlite3-dev) the same is done over a file of it in WAL mode, by a thread and a connection for
-each reader. One run is drawn into docs/pictures by gnuplot, where that is there. The clients are in C."""
+each reader. One run is drawn into docs/pictures by gnuplot, where that is there. The clients are in C.
+
+With --unasked it is another run, of two minutes: a load of 65,536 a second beside sixteen readers, of gets and scans,
+of a hot hundredth of the old records or anywhere, at a server that doesn't merge in idle time what nobody reads, and at
+one that does. The readers' 99 % is to be at most 1.2 times what it is without that, and the loads' time 1.1 times. The
+scans anywhere are drawn by the second. `--unasked --loads 10` takes half a minute."""
 
 import argparse
 import contextlib
@@ -24,8 +29,12 @@ from support import AMSERVE, Server  # noqa: E402
 
 PICTURES = os.path.join(TOP, "docs", "pictures")
 MEMORY = "/dev/shm" if os.path.isdir("/dev/shm") else None
-BATCHES, KINDS, READERS = (20_000, 65_536), ("get", "scan"), (1, 4, 16, 64)
+BATCHES, KINDS, READERS, LOADS = (20_000, 65_536), ("get", "scan"), (1, 4, 16, 64), 20
 DUMPS, WRITERS, ACCOUNTS, AMOUNT = 75, 16, 1000, 1_000_000
+# The loads of a run with --unasked, and by which words a server merges what nobody reads and doesn't.
+UNASKED_LOADS, UNASKED_READERS = 120, 16
+UNASKED_WAYS: Dict[str, Tuple[str, ...]] = {"without idle merging": ("--runs", "0"), "with idle merging": ()}
+MOST_OF_READERS, MOST_OF_LOADS = 1.2, 1.1
 # The run that is drawn, and so many seconds of it, by the longest answer of each fiftieth of a second.
 DRAWN, DRAWN_SECONDS, BUCKET = (65_536, "get", 16), 5, 0.02
 
@@ -37,17 +46,30 @@ class Load(NamedTuple):
 
 
 class Run(NamedTuple):
-    """What readers and loads told: each load, when each transaction of a reader began and how long it took, and how often a lock was
-    in a reader's way."""
+    """What readers and loads told: each load, when each transaction of a reader began and how long it took, how often a
+    lock was in a reader's way, and the ways in which they read."""
 
     lead: float
     loads: List[Load]
     reads: List[Tuple[float, float]]
     refusals: int
+    ways: List[str]
 
     def beside(self) -> List[float]:
         """How long transactions took, in milliseconds, since the first load, the shortest first."""
         return sorted(took * 1000 for at, took in self.reads if at >= self.lead)
+
+    def of_way(self, way: str) -> "Run":
+        """The same with the transactions of one way of reading alone."""
+        reads = [read for read, name in zip(self.reads, self.ways) if name == way]
+        return self._replace(reads=reads, ways=[way] * len(reads))
+
+    def by_second(self) -> Dict[int, float]:
+        """The middle time of the transactions that began in each second since the first load, in milliseconds."""
+        times: Dict[int, List[float]] = {}
+        for at, took in self.reads:
+            times.setdefault(int(at - self.lead), []).append(took * 1000)
+        return {second: statistics.median(found) for second, found in sorted(times.items()) if second >= 0}
 
     def rate_before(self) -> float:
         return sum(0.2 < at < self.lead - 0.2 for at, _ in self.reads) / (self.lead - 0.4)
@@ -69,6 +91,7 @@ def share(times: List[float], part: float) -> float:
 def run_of(said: str, lead: float) -> Run:
     loads: List[Load] = []
     reads: List[Tuple[float, float]] = []
+    ways: List[str] = []
     refusals = 0
     for line in said.splitlines():
         kind, *words = line.split()
@@ -76,15 +99,16 @@ def run_of(said: str, lead: float) -> Run:
             loads.append(Load(float(words[0]), float(words[1]), int(words[2])))
         elif kind == "R":
             reads.append((float(words[0]), float(words[1])))
+            ways.append(words[2] if len(words) > 2 else "")
         else:
             refusals = int(words[0])
-    return Run(lead, loads, reads, refusals)
+    return Run(lead, loads, reads, refusals, ways)
 
 
 @contextlib.contextmanager
-def serving(program: str) -> Iterator[Server]:
+def serving(program: str, *words: str) -> Iterator[Server]:
     """A server that stays."""
-    server = Server("--stay", "--stop", "--sessions", "128", "--workers", "1", program=(program,))
+    server = Server("--stay", "--stop", "--sessions", "128", "--workers", "1", *words, program=(program,))
     try:
         yield server
     finally:
@@ -110,13 +134,17 @@ def at_sqlite(clients: str, _: str, rest: List[str]) -> str:
         return output([clients, "sqlite", os.path.join(folder, "records"), *rest])
 
 
+def told_of_times(times: List[float]) -> str:
+    return f"{share(times, 0.5):6.3f} ms, 99 % {share(times, 0.99):7.3f}, longest {times[-1]:7.1f}"
+
+
 def told(name: str, run: Run) -> str:
     """A line of the table."""
     times, loads = run.beside(), [load.took * 1000 for load in run.loads]
     first = sum(load.tries == 1 for load in run.loads)
     return (
         f"{name:28}{first:3} of {len(loads)} at once, {statistics.median(loads):6.1f} ms each, {max(loads):6.1f} the longest; "
-        f"readers {share(times, 0.5):6.3f} ms, 99 % {share(times, 0.99):7.3f}, longest {times[-1]:7.1f}, told BUSY {run.refusals}; "
+        f"readers {told_of_times(times)}, told BUSY {run.refusals}; "
         f"{run.rate_before():7.0f} a second before, {run.rate_between():7.0f} between"
     )
 
@@ -190,15 +218,55 @@ unset multiplot
     subprocess.run(["gnuplot"], input=commands, text=True, check=True)
 
 
+def unasked_runs(asked: argparse.Namespace, clients: str) -> Iterator[str]:
+    """Readers beside loads with idle merging and without it, and what is to be said of that."""
+    runs = []
+    for name, words in UNASKED_WAYS.items():
+        with serving(asked.program, *words) as server:
+            rest = words_of(asked, UNASKED_READERS, "mixed", BATCHES[-1])
+            runs.append(run_of(output([clients, "lines", str(server.port), *rest]), asked.lead))
+        yield told(name, runs[-1])
+        for way in sorted(set(runs[-1].ways)):
+            yield f"{name}, {way:10}{told_of_times(runs[-1].of_way(way).beside())}"
+    without, with_it = ([statistics.median(load.took for load in run.loads), share(run.beside(), 0.99)] for run in runs)
+    loads, readers = (one / other for one, other in zip(with_it, without))
+    yield (
+        f"with it in parts of without: loads {loads:.2f}, at most {MOST_OF_LOADS} wanted; "
+        f"readers' 99 % {readers:.2f}, at most {MOST_OF_READERS} wanted"
+    )
+    if shutil.which("gnuplot"):
+        draw_unasked(os.path.join(asked.folder, "unasked.svg"), *(run.of_way("cold_scan").by_second() for run in runs))
+
+
+def draw_unasked(picture: str, without: Dict[int, float], with_it: Dict[int, float]) -> None:
+    points = ""
+    for times in (without, with_it):
+        points += "".join(f"{second} {took:.4f}\n" for second, took in times.items()) + "e\n"
+    commands = f"""
+set terminal svg size 720,360 dynamic background rgb 'white' font 'sans-serif,13'
+set output '{picture}'
+set xlabel 'seconds, each with a load of 65,536'
+set ylabel 'ms for a scan of 100 anywhere'
+set yrange [0:]
+set key top left
+set grid
+plot '-' using 1:2 with lines lw 2 lc rgb '#808080' title 'merged only where somebody reads', \\
+     '-' using 1:2 with lines lw 2 lc rgb '#c03020' title 'and in idle time what nobody reads'
+"""
+    subprocess.run(["gnuplot"], input=commands + points, text=True, check=True)
+
+
 def main() -> None:
     parser = argparse.ArgumentParser(description=__doc__, formatter_class=argparse.RawDescriptionHelpFormatter)
-    parser.add_argument("--loads", type=int, default=20, metavar="N", help="loads of a run, one a second (default: 20)")
+    parser.add_argument("--unasked", action="store_true", help="readers with idle merging and without it, and no more")
+    parser.add_argument("--loads", type=int, metavar="N", help="loads of a run, one a second (default: 20, or 120)")
     parser.add_argument("--lead", type=float, default=3, metavar="S", help="seconds of readers alone before them (default: 3)")
     parser.add_argument("--readers", type=int, nargs="+", default=READERS, metavar="N", help="how many readers (default: 1 4 16 64)")
     parser.add_argument("--dumps", type=int, default=DUMPS, metavar="N", help=f"dumps beside writers (default: {DUMPS})")
     parser.add_argument("--folder", default=PICTURES, help="where the table goes (default: docs/pictures)")
     parser.add_argument("--program", default=AMSERVE, metavar="FILE", help="the server (default: ./amserve)")
     asked = parser.parse_args()
+    asked.loads = asked.loads or (UNASKED_LOADS if asked.unasked else LOADS)
     has_sqlite = os.path.exists("/usr/include/sqlite3.h")
     lines: List[str] = []
 
@@ -211,6 +279,11 @@ def main() -> None:
         flags = ["-DWITH_SQLITE", "-lsqlite3"] if has_sqlite else []
         source = os.path.join(TOP, "bench", "beside.c")
         subprocess.run([os.environ.get("CC", "cc"), "-std=gnu11", "-O2", "-pthread", "-o", clients, source, *flags], check=True)
+        if asked.unasked:
+            for line in unasked_runs(asked, clients):
+                tell(line)
+            keep(os.path.join(asked.folder, "unasked.txt"), lines)
+            return
         ways = [("Tiuvrokk", at_server), *([("SQLite", at_sqlite)] if has_sqlite else [])]
         for batch in BATCHES:
             for kind in KINDS:
@@ -222,7 +295,11 @@ def main() -> None:
                     if (batch, kind, readers) == DRAWN and len(runs) == 2 and shutil.which("gnuplot"):
                         draw(folder, runs[0], runs[1])
         tell(dumps(clients, asked.program, asked.dumps))
-    with open(os.path.join(asked.folder, "beside.txt"), "w", encoding="ascii") as file:
+    keep(os.path.join(asked.folder, "beside.txt"), lines)
+
+
+def keep(path: str, lines: List[str]) -> None:
+    with open(path, "w", encoding="ascii") as file:
         file.writelines(lines)
 
 

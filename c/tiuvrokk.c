@@ -199,17 +199,18 @@ static tvk_status merge_some(tvk_store *store, uint64_t steps, uint64_t *all) {
     return TVK_OK;
 }
 
-/* Where so many runs have entries a commit merges, and takes a step more for each RUNS_TO_A_STEP: then runs don't get many more,
- * whether a program loads little at once or much. */
+/* Where more than so many runs have entries a commit merges, and takes a step more for each RUNS_TO_A_STEP beyond: then runs don't
+ * get many more, whether a program loads little at once or much. What a step reads takes the longer the more runs there are, so
+ * steps become more soon. */
 #define FEW_RUNS 64
-#define RUNS_TO_A_STEP 128
+#define RUNS_TO_A_STEP 16
 #define MOST_MERGES 16
 
 static void merge_where_runs_are_many(tvk_store *store) {
     tvk_figures_t figures;
     uint64_t steps, worked_off;
     if (tiuvrokk_figures(store, &figures) || figures.runs <= FEW_RUNS) return;
-    steps = 1 + figures.runs / RUNS_TO_A_STEP;
+    steps = 1 + (figures.runs - FEW_RUNS) / RUNS_TO_A_STEP;
     merge_some(store, steps < MOST_MERGES ? steps : MOST_MERGES, &worked_off);
 }
 

@@ -21,6 +21,7 @@ sys.dont_write_bytecode = True
 from support import AMAUDIT, AMLOAD, AMSERVE, LIMIT, TOP, Client, Server, built, fail, wanted  # noqa: E402
 
 sys.path.insert(0, f"{TOP}/python")
+from tiuvrokk_tools.drawing import IDLE_COLOURS  # noqa: E402
 from tiuvrokk_tools.verbs import TABLE  # noqa: E402
 
 AMDUMP, AMCLI, AMDRAW = (os.path.join(TOP, name) for name in ("amdump", "amcli", "amdraw"))
@@ -100,6 +101,47 @@ UNDONE_TABLE = [
     ["15", "1", "0", "3", "0 %", "-"],
     ["16", "1", "2", "3", "100 %", "-"],
 ]
+# Two runs of four records at a server that stays. A worker reads the first half, and a session b alone, before that is merged:
+# what only the worker asked for is a, c and d. Transactions 4 to 6 aren't a worker's: a step of another stands between
+# theirs, they read more than one row, or they abort what they have read. The eighth one is, and meets a lock.
+UNASKED = """TRACE 4 4294967294 32 64 256 4096
+BEGIN | BEGUN 1
+LOAD 1 h61=h30 h63=h30 h65=h30 h67=h30 | OK
+LOAD 1 h62=h30 h64=h30 h66=h30 h68=h30 | OK
+COMMIT 1 | COMMITTED 1
+BEGIN | BEGUN 2
+GET 2 h62 | VAL h30
+BEGIN | BEGUN 3
+SCAN 3 h61 h64 1 | ROWS 1 h61=h30
+COMMIT 3 | COMMITTED 2
+COMMIT 2 | COMMITTED 3
+MERGE 16 | MOVED 1 2
+MERGE 16 | DONE
+MERGE 16 | MOVED 2 1
+MERGE 16 | MOVED 1 2
+BEGIN | BEGUN 4
+SCAN 4 h65 h65 1 | ROWS 1 h65=h30
+MERGE 16 | DONE
+COMMIT 4 | COMMITTED 4
+BEGIN | BEGUN 5
+SCAN 5 h66 h66 2 | ROWS 1 h66=h30
+COMMIT 5 | COMMITTED 5
+BEGIN | BEGUN 6
+SCAN 6 h67 h67 1 | ROWS 1 h67=h30
+ABORT 6 | ABORTED
+MERGE 16 | MOVED 1 1
+MERGE 16 | DONE
+MERGE 16 | MOVED 1 2
+MERGE 16 | DONE
+MERGE 16 | MOVED 1 1
+MERGE 16 | DONE
+BEGIN | BEGUN 7
+LOCK 7 X h61 h68 | OK
+BEGIN | BEGUN 8
+SCAN 8 h61 h68 1 | BUSY 7
+ABORT 8 | ABORTED
+COMMIT 7 | COMMITTED 6
+"""
 
 
 def run(*words: str, text: str = "") -> Tuple[int, str, str]:
@@ -505,6 +547,21 @@ def table_of(text: str) -> List[List[str]]:
     return [re.split("  +", line.strip()) for line in run(AMDRAW, "--text", text=text)[1].splitlines()]
 
 
+def unasked_merging() -> None:
+    """What only a worker asked for has a shade and a column of its own; a bounded server has no such workers."""
+    wanted("what the auditor says", run(AMAUDIT, text=UNASKED)[1], "LEGAL 6\n")
+    rows, shown = table_of(UNASKED), run(AMDRAW, text=UNASKED)[1]
+    wanted("the head", rows[0], ["step", "queries", "moved", "unasked", "cleaned", "run 1", "run 2"])
+    wanted("its last row", rows[-1], ["36", "4", "7", "3", "0", "100 %", "75 %"])
+    told = ">4 queries<", ">4 merge steps that moved 4 records<", ">3 records that nobody asked for<", ">worker busy<"
+    colours = IDLE_COLOURS.values()
+    wanted("the picture", [text in shown for text in (*told, *colours)], [True] * 6)
+    text = UNASKED.replace("TRACE 4 4294967294 32 64 256 4096", "TRACE 2")
+    shown = run(AMDRAW, text=text)[1]
+    wanted("a bounded server", table_of(text)[-1], ["36", "5", "7", "0", "100 %", "75 %"])
+    wanted("its picture", [text in shown for text in (">5 queries<", "worker", *colours)], [True, False, False, False])
+
+
 def pictures(folder: str) -> None:
     """A run drawn, as a picture and as a table."""
     path = os.path.join(folder, "trace")
@@ -530,6 +587,7 @@ def pictures(folder: str) -> None:
     for text in ("50 % left", ">25 %<", "1 CLEAN of 1 place"):
         if text not in shown:
             fail(f"the picture of deleted records doesn't say {text!r}")
+    unasked_merging()
     bad = run(AMDRAW, text="TRACE 2\nBEGIN | BEGUN 1\nFOO\n")
     wanted("a bad line", bad, (3, "", "amdraw: line 3: it is none of a trace\n"))
     wanted("no run", run(AMDRAW, text="foo\n")[0], 3)

@@ -196,6 +196,21 @@ static void loads_and_scans() {
     expect(!store.tidy(), "nothing is left to do");
 }
 
+static void what_nobody_reads() {
+    Store store;
+    for (int run = 0; run < 300; run++) {
+        Map records;
+        for (int place = 0; place < 8; place++) records[std::to_string(place) + key_of(run)] = "v";
+        Transaction tx = store.transaction();
+        tx.load(records.begin(), records.end());
+        tx.commit();
+    }
+    expect(store.figures().runs >= 64 && store.figures().runs < 200, "commits merge where runs are many");
+    expect(store.tidy(), "a piece of the rest");
+    while (store.tidy()) continue;
+    expect(!store.figures().runs && store.figures().in_final == 2400, "all of it");
+}
+
 static void loads_in_any_order() {
     Store store;
     Transaction tx = store.transaction();
@@ -340,6 +355,7 @@ int main(int, char **words) {
     errors();
     pairs_written_down();
     loads_and_scans();
+    what_nobody_reads();
     loads_in_any_order();
     puts_in_any_order();
     threads_in_turn();

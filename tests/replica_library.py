@@ -1,8 +1,9 @@
 #!/usr/bin/env python3
-"""The proved rules of replicas as a library: worked and bad calls of tiuvrokk_replica.h from C, with each allocation refused in turn;
-a store that is made anew, one that is out of runs, and answers as long as a transaction may have; then random transactions of three
-sessions, tried and taken as entries by two replicas, against what `amserve alone` answers to the same lines; and random trials,
-entries and changes of a log against what `amreplica` makes of them, and a plain reader."""
+"""The proved rules of replicas as a library: worked and bad calls of tiuvrokk_replica.h from C, with each allocation refused in
+turn; a store that is made anew, one that merges what nobody reads, one that is out of runs, and answers as long as a transaction
+may have; then random transactions of three sessions, tried and taken as entries by two replicas, against what `amserve alone`
+answers to the same lines; and random trials, entries and changes of a log against what `amreplica` makes of them, and a plain
+reader."""
 
 import asyncio
 import ctypes
@@ -27,7 +28,7 @@ from tiuvrokk_replica.log import Event, Log  # noqa: E402
 from tiuvrokk_replica.reader import WentBack  # noqa: E402
 from tiuvrokk_replica.replica import Outcome, Replica, Waiting  # noqa: E402
 from tiuvrokk_replica.library import StoreEnded  # noqa: E402
-from tiuvrokk_replica.store import Store as RunningStore, Trial, runs_of  # noqa: E402
+from tiuvrokk_replica.store import FEW_RUNS, MERGE, Store as RunningStore, Trial, runs_of  # noqa: E402
 from tiuvrokk_replica.transaction import Transaction  # noqa: E402
 
 CC = os.environ.get("CC", "cc")
@@ -37,6 +38,8 @@ STEPS, ENTRIES, CHANGES, SEED = 6000, 400, 20000, 7
 OK, ABSENT, STAGED, WENT_BACK, PARTS_MISSING = 0, 1, 27, 28, 29
 # Records that one run has no room for, the runs that a store makes in its life, and those of a transaction.
 TWO_RUNS, ALL_RUNS, SOME_RUNS = 65_538, 65_535, 4_000
+# Loads that nobody reads.
+TIDIED_RUNS = 500
 HEAD = 2 ** 64 - 1
 CALLS = """\
 GET ant: NONE
@@ -646,6 +649,39 @@ def made_anew() -> str:
     return f"a store of {TWO_RUNS} records is made anew"
 
 
+def left_in_runs(store: RunningStore) -> bool:
+    """Whether a run has records."""
+    store.look(b"SCAN %b 1" % EVERYTHING)
+    return store.upkeep(MERGE) != b"DONE\n"
+
+
+def tidied() -> str:
+    """What entries loaded and nobody reads is merged, but for a few runs, and no answer changes. What a session reads between
+    two pieces is merged before the next one: few records a step, where a piece takes whole runs."""
+    rng, numbers = random.Random(SEED), list(range(TIDIED_RUNS * 64))
+    rng.shuffle(numbers)
+    tidy, plain = RunningStore(), RunningStore()
+    for run in range(TIDIED_RUNS):
+        keys = sorted(numbers[run * 64:run * 64 + 64])
+        entry = text_of([Block(b"LOAD " + b" ".join(b"%05d=%d" % (key, run) for key in keys) + b"\n")])
+        tidy.apply(entry)
+        plain.apply(entry)
+        if run + 1 == FEW_RUNS:
+            wanted("more to do for a few runs", tidy.keep_up(), False)
+    wanted("more to do behind a piece", tidy.keep_up(), True)
+    read = b"SCAN 00000 00100 1000"
+    wanted("a session's read", tidy.look(read), plain.look(read))
+    moved = [int(step.split()[1]) for step in iter(lambda: tidy.upkeep(MERGE), b"IDLE\n") if step.startswith(b"MOVED")]
+    wanted("what is merged next", 0 < sum(moved) <= 101 and max(moved) < 16, True)
+    while tidy.keep_up():
+        pass
+    wanted("runs that are left", [left_in_runs(tidy), left_in_runs(plain)], [False, True])
+    wanted("records", tidy.records() == plain.records() != [], True)
+    tidy.close()
+    plain.close()
+    return f"{TIDIED_RUNS} runs that nobody reads are merged"
+
+
 def out_of_runs() -> str:
     """A store that has made all its runs ends its replica: no line is told that it was refused for that."""
     store, loads = RunningStore(), 0
@@ -686,6 +722,7 @@ def main() -> None:
         os.environ["TIUVROKK_REPLICA_LIBRARY"] = f"{installed}/lib/libtiuvrokk_replica.so"
         calls = ctypes.CDLL(os.environ["TIUVROKK_REPLICA_LIBRARY"])
         print(f"replica_library: {made_anew()}")
+        print(f"replica_library: {tidied()}")
         print(f"replica_library: {out_of_runs()}")
         print(f"replica_library: {longest_answers()}")
         print(f"replica_library: {random_transactions(calls)}")

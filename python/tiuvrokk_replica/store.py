@@ -20,6 +20,9 @@ OPERATIONS = 4096
 # What is wrong with a line, whatever its place.
 FAULTS = (b"ERR SYNTAX", b"ERR RANGE", b"ERR LONG")
 MERGE, CLEAN = b"MERGE 64", b"CLEAN " + EVERYTHING + b" 64"
+# Runs of entries that may stay where nobody reads them, the merge steps of a piece of all others, and the ranges to merge that a
+# store keeps in mind.
+FEW_RUNS, PIECE, MOST_WISHES = 64, 16, 64
 # Bytes of an answer that most fit into.
 ROOM = 1 << 16
 
@@ -33,6 +36,7 @@ class Store:
         self.at, self.length_at, self.copied_at = byref(self.handle), byref(self.length), byref(self.copied)
         self.room = ctypes.create_string_buffer(ROOM)
         self.runs = 0
+        self.loaded = 0  # runs that entries made since all were merged, at most
         self.has_ghosts = False  # that trials and deletions may have left
         self.trial: Optional[Trial] = None  # that is open in it
         must(self.calls["open"](self.at))
@@ -62,6 +66,7 @@ class Store:
         if self.runs + runs > RUNS:
             self.renew()
         self.runs += runs
+        self.loaded += runs
         self.has_ghosts = self.has_ghosts or may_leave_ghosts(text)
         self.trial = None
 
@@ -79,11 +84,25 @@ class Store:
     # What no answer changes by
 
     def keep_up(self) -> bool:
-        """Merges what was read, and lets places go that transactions left, a step each; whether more is to be done."""
+        """Merges what was read, and lets places go that transactions left, a step each, or else tidies; whether more is to be
+        done."""
         moved = self.upkeep(MERGE)
         if self.has_ghosts:
             self.has_ghosts = self.upkeep(CLEAN) == b"CLEANED 64\n"
-        return self.has_ghosts or moved != b"IDLE\n"
+        return self.has_ghosts or moved != b"IDLE\n" or self.tidy()
+
+    def tidy(self) -> bool:
+        """Merges a piece of what nobody reads, run by run, where runs may be many; whether more is to be done. No call of the
+        library does that: a read of all keys has them merged, and is forgotten behind so many newer ones. So what sessions read
+        next is merged before the next piece."""
+        if self.loaded <= FEW_RUNS:
+            return False
+        self.look(b"SCAN " + EVERYTHING + b" 1")
+        if not all(self.upkeep(MERGE).startswith(b"MOVED ") for _ in range(PIECE)):
+            self.loaded = 0
+            return False
+        self.looks([b"GET !"] * MOST_WISHES)
+        return True
 
     def upkeep(self, line: bytes) -> bytes:
         """The answer to a line that merges or cleans; nothing, where it is another one."""
@@ -105,7 +124,7 @@ class Store:
     def renew(self) -> None:
         """Another store with the same records, before this one is out of runs."""
         must(self.calls["renew"](self.at))
-        self.runs, self.has_ghosts, self.trial = 0, False, None
+        self.runs, self.loaded, self.has_ghosts, self.trial = 0, 0, False, None
 
     # Snapshots
 
@@ -135,6 +154,7 @@ class Store:
             self.apply(text_of([Block(piece)]))
         if self.commits != len(pieces):
             raise StoreEnded("the records of a snapshot can't be loaded")
+        self.loaded = 0  # (a scan opens few of them, since each lies behind the one before)
         must(self.calls["restore"](self.at, ctypes.c_uint64(commits)))
 
     @property

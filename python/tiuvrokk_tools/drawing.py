@@ -6,16 +6,20 @@ they are deleted and still take their place. Below that the steps go from top to
 merge step a bar over what it moved, each CLEAN one over what it freed; locks, refusals and aborts are told by a word. At the
 foot stands the final partition after each quarter of the steps. The table has, by step, how many records were merged and
 places cleaned, and the share of each run that has left it. A trace is drawn as it stands: `amaudit` says whether it is legal.
-Python 3.9 is needed.
+
+Idle merging of a server that stays has its own shade, and a column `unasked` of the table. A trace doesn't say whose
+a step is: a BEGIN, a SCAN for one row and a COMMIT, or an ABORT where that was busy, one right after another, are taken
+for a worker's. So is what a session does that reads one row in a transaction of its own while nobody else asks. Python
+3.9 is needed.
 
     ./amdraw TRACE >picture.svg"""
 
 import argparse
 from bisect import bisect_left, bisect_right
 from collections import Counter
-from typing import Dict, Iterable, List, Tuple
+from typing import Dict, Iterable, List, Tuple, Union
 
-from .merging import Merging, Run, followed
+from .merging import Merging, Move, Query, Run, followed
 from .program import Parser, read_file, run_program, write_all
 
 EPILOG = """status:
@@ -34,6 +38,7 @@ RUNS_HEIGHT, BAND, WORD_HEIGHT = 360, 14, 10
 COLUMN = 4
 TABLE_ROWS, MOST_COLUMNS = 16, 20
 COLOURS = {"run": "#30506e", "ghost": "#e2b4bc", "gone": "#e3e9ee", "query": "#2a78b5", "move": "#d9701e", "clean": "#2f8f4e"}
+IDLE_COLOURS = {"query": "#b4a8cc", "move": "#8a63a8"}
 WORD_COLOUR = "#b02030"
 SHADES = ["#f6dcc4", "#efba8c", "#e59450", "#c9601a"]
 
@@ -91,19 +96,23 @@ class Picture:
             self.text(LEFT + WIDTH + 8, middle + 4, told)
 
     def steps(self) -> None:
-        """The queries and the merge steps."""
-        queries = {(*self.span(it.low, it.high), self.y(it.step)) for it in self.merging.queries}
-        moves = {(*self.span(it.low, it.high), self.y(it.step)) for it in self.merging.moves}
-        cleans = {(*self.span(it.low, it.high), self.y(it.step)) for it in self.merging.cleans}
+        """The queries and the merge steps, those of idle merging behind the others."""
         frame = f'x="{LEFT}" y="{self.steps_top:.0f}" width="{WIDTH}" height="{STEPS_HEIGHT}"'
         self.marks.append(f'<rect {frame} fill="none" stroke="#bbb"/>')
-        for kind, bars in (("query", queries), ("move", moves), ("clean", cleans)):
-            path = " ".join(sorted({f"M{low},{y:.1f}h{high - low}" for low, high, y in bars}))
-            if path:
-                self.marks.append(f'<path d="{path}" stroke="{COLOURS[kind]}" stroke-width="1" stroke-opacity="0.6"/>')
+        for is_idle, colours in ((True, IDLE_COLOURS), (False, COLOURS)):
+            self.bars(colours["query"], (it for it in self.merging.queries if it.is_idle == is_idle))
+            self.bars(colours["move"], (it for it in self.merging.moves if it.is_idle == is_idle))
+        self.bars(COLOURS["clean"], self.merging.cleans)
         for quarter in range(5):
             step = self.merging.steps * quarter // 4
             self.text(LEFT - 8, self.y(step) + 4, f"step {step}", 'text-anchor="end"')
+
+    def bars(self, colour: str, steps: Iterable[Union[Query, Move]]) -> None:
+        """One over the range of each of these steps."""
+        spans = {(*self.span(it.low, it.high), self.y(it.step)) for it in steps}
+        path = " ".join(sorted({f"M{low},{y:.1f}h{high - low}" for low, high, y in spans}))
+        if path:
+            self.marks.append(f'<path d="{path}" stroke="{colour}" stroke-width="1" stroke-opacity="0.6"/>')
 
     def words(self) -> None:
         """Locks, refusals, aborts: those that stand close together in one line, with their numbers."""
@@ -136,11 +145,16 @@ class Picture:
         self.text(LEFT, 22, f"{whole}, keys from left to right", 'class="title"')
         pale = ", and pale where they are deleted" if any(run.ghosts for run in merging.runs) else ""
         self.text(LEFT, 42, f"loaded runs at the end: a band is thinned where its records left it{pale}")
-        moved, freed = (sum(it.number for it in steps) for steps in (merging.moves, merging.cleans))
+        freed = sum(it.number for it in merging.cleans)
+        asked = [it for it in merging.moves if not it.is_idle]
+        queries = sum(not it.is_idle for it in merging.queries)
         told = (
-            f'<tspan fill="{COLOURS["query"]}">{len(merging.queries)} queries</tspan> and '
-            f'<tspan fill="{COLOURS["move"]}">{len(merging.moves)} merge steps that moved {count(moved, "record")}</tspan>'
+            f'<tspan fill="{COLOURS["query"]}">{queries} queries</tspan> and '
+            f'<tspan fill="{COLOURS["move"]}">{len(asked)} merge steps that moved {count(moved(asked), "record")}</tspan>'
         )
+        if merging.unasked():
+            unasked = f'{count(moved(merging.unasked()), "record")} that nobody asked for'
+            told = told.replace("</tspan> and ", "</tspan>, ") + f', <tspan fill="{IDLE_COLOURS["move"]}">{unasked}</tspan>'
         if freed:
             told = told.replace("</tspan> and ", "</tspan>, ")
             cleans = f'{count(len(merging.cleans), "CLEAN")} of {count(freed, "place")}'
@@ -184,6 +198,11 @@ def columns_path(x: float, levels: List[float], wide: int) -> str:
     return path
 
 
+def moved(steps: Iterable[Move]) -> int:
+    """How many records these moved."""
+    return sum(it.number for it in steps)
+
+
 def count(number: int, name: str) -> str:
     return f"{number:,} {name}{'' if number == 1 else 's'}"
 
@@ -194,18 +213,20 @@ def percent(part: int, whole: int) -> str:
 
 def table(merging: Merging) -> str:
     """What was done by each step, and the share of each run that has left it; of many runs the least, the middle and the
-    greatest share."""
+    greatest share. Where workers merged what nobody asked for, that much of what was moved."""
     is_wide = len(merging.runs) > MOST_COLUMNS
     names = ["least", "middle", "most"] if is_wide else [f"run {number}" for number in range(1, len(merging.runs) + 1)]
-    rows = [["step", "queries", "moved", "cleaned", *names]]
+    unasked = merging.unasked()
+    rows = [["step", "queries", "moved", *(["unasked"] if unasked else []), "cleaned", *names]]
     for part in range(1, TABLE_ROWS + 1):
         step = merging.steps * part // TABLE_ROWS
         shares = [share_gone(run, step) for run in merging.runs]
         known = sorted(share for share in shares if share >= 0)
         if is_wide:
             shares = [known[0], known[len(known) // 2], known[-1]] if known else [-1.0] * 3
-        queries = sum(it.step <= step for it in merging.queries)
-        done = [sum(it.number for it in steps if it.step <= step) for steps in (merging.moves, merging.cleans)]
+        queries = sum(it.step <= step and not it.is_idle for it in merging.queries)
+        kinds = [merging.moves, *([unasked] if unasked else []), merging.cleans]
+        done = [moved(it for it in steps if it.step <= step) for steps in kinds]
         rows.append([str(step), str(queries), *map(str, done), *("-" if share < 0 else f"{share:.0f} %" for share in shares)])
     widths = [max(map(len, column)) for column in zip(*rows)]
     return "".join("  ".join(f"{cell:>{width}}" for cell, width in zip(row, widths)) + "\n" for row in rows)

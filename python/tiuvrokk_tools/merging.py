@@ -23,20 +23,23 @@ KEY = re.compile(rb"h((?:[0-9a-f]{2})*)|([0-9]{1,20})")
 
 
 class Query(NamedTuple):
-    """A read of a range."""
+    """A read of a range, and whether it is taken for a worker's."""
 
     step: int
     low: bytes
     high: bytes
+    is_idle: bool = False
 
 
 class Move(NamedTuple):
-    """What a merge step moved, or a clean step took away: the first and the last key, and how many."""
+    """What a merge step moved, or a clean step took away: the first and the last key, how many, and whether a worker asked
+    for it."""
 
     step: int
     low: bytes
     high: bytes
     number: int
+    is_idle: bool = False
 
 
 class Stay(NamedTuple):
@@ -115,7 +118,10 @@ class Body:
 class Merging:
     """What a trace tells, step by step."""
 
-    def __init__(self) -> None:
+    def __init__(self, has_idle_merging: bool = False) -> None:
+        self.has_idle_merging = has_idle_merging
+        # As far as the last steps are a worker's read: its transaction, and the step that would be the next one.
+        self.idle: Tuple[bytes, bytes] = (b"", b"")
         self.steps = 0
         self.runs: List[Run] = []
         self.queries: List[Query] = []
@@ -126,7 +132,7 @@ class Merging:
         self.arrived: Dict[bytes, int] = {}  # the records of the final partition
         self.ghosts: List[bytes] = []  # the ghosts of that, rising
         self.over: List[Stay] = []
-        self.wishes: Deque[Tuple[bytes, bytes]] = deque(maxlen=MOST_WISHES)
+        self.wishes: Deque[Query] = deque(maxlen=MOST_WISHES)
         self.bodies: Dict[bytes, Body] = {}
 
     def keys(self) -> List[bytes]:
@@ -135,6 +141,10 @@ class Merging:
         for run in self.runs:
             found.update(run.keys)
         return sorted(found)
+
+    def unasked(self) -> List[Move]:
+        """What was moved that only workers asked for."""
+        return [move for move in self.moves if move.is_idle]
 
     def final_at(self, step: float) -> List[bytes]:
         """The records of the final partition after a step."""
@@ -160,13 +170,30 @@ class Merging:
             self.write(verb, words, reply == b"OK")
         elif verb in (b"LOCK", b"MARK", b"BACK", b"COMMIT", b"ABORT"):
             self.control(verb, words, reply)
+        if self.has_idle_merging:
+            self.look_for_idle(verb, words, reply, told)
+
+    def look_for_idle(self, verb: bytes, words: List[bytes], reply: bytes, told: List[bytes]) -> None:
+        """Marks the last read as a worker's where this step is the end of one, or where a lock was in its way."""
+        owner, due = self.idle
+        self.idle = (b"", b"")
+        if verb == b"BEGIN" and reply == b"BEGUN":
+            self.idle = (told[0], b"SCAN")
+        elif verb != due or words[0] != owner:
+            return
+        elif verb == b"SCAN" and words[3] == b"1":
+            self.idle = (owner, {b"ROWS": b"COMMIT", b"BUSY": b"ABORT"}.get(reply, b""))
+        elif verb == b"COMMIT":
+            self.queries[-1] = self.wishes[-1] = self.queries[-1]._replace(is_idle=True)
+        elif verb == b"ABORT":
+            self.words[-2:] = [(self.steps, "worker busy")]
 
     def body(self, owner: bytes) -> Body:
         return self.bodies.setdefault(owner, Body())
 
     def read(self, low: bytes, high: bytes) -> None:
         self.queries.append(Query(self.steps, low, high))
-        self.wishes.append((low, high))
+        self.wishes.append(self.queries[-1])
 
     def write(self, verb: bytes, words: List[bytes], is_done: bool) -> None:
         """A record or a run that is new, or a record that goes. The lock is kept whatever was answered."""
@@ -258,8 +285,8 @@ class Merging:
             number, at = int(told[0]), int(told[1])
             if not 1 <= at <= len(self.runs):
                 raise ValueError
-            run = self.runs[at - 1]
-            places = run.first(*self.wishes[0], number)
+            run, wish = self.runs[at - 1], self.wishes[0]
+            places = run.first(wish.low, wish.high, number)
             keys = [run.keys[place] for place in places]
             for key in keys:
                 if self.homes.get(key) is run:
@@ -267,7 +294,7 @@ class Merging:
                     self.arrive(key)
             run.leave(self.steps, places)
             if keys:
-                self.moves.append(Move(self.steps, keys[0], keys[-1], len(keys)))
+                self.moves.append(Move(self.steps, keys[0], keys[-1], len(keys), wish.is_idle))
 
     def clean(self, low: bytes, high: bytes, number: int) -> None:
         """So many ghosts go, those of the final partition first."""
@@ -313,11 +340,11 @@ def key_of(word: bytes) -> bytes:
 
 def followed(text: bytes) -> Merging:
     """Follows the text of a trace. The first line that is none of one ends all."""
-    merging = Merging()
     lines = text.split(b"\n")
     first = FIRST.fullmatch(lines[0])
     if not first or int(first.group(1) or 1) > LAST_RUN:
         raise Stop(3, "line 1: it names no version of a trace")
+    merging = Merging(has_idle_merging=first.group(1) is not None)
     for number, line in enumerate(lines[1:], 2):
         if not line and number == len(lines):
             break

@@ -111,6 +111,22 @@ fn loads_in_each_form() -> Result<(), Error> {
 }
 
 #[test]
+fn what_nobody_reads() -> Result<(), Error> {
+    let store = Store::open()?;
+    for run in 0..300 {
+        let mut tx = store.transaction()?;
+        tx.load((0..8).map(|place| (format!("{place}{run:03}"), "v")))?;
+        tx.commit()?;
+    }
+    // Commits merge where runs are many.
+    assert!((64..200).contains(&store.figures().runs));
+    assert!(store.tidy()?);
+    while store.tidy()? {}
+    assert_eq!((store.figures().runs, store.figures().in_final), (0, 2400));
+    Ok(())
+}
+
+#[test]
 fn beside_a_map() -> Result<(), Error> {
     let store = Store::open()?;
     let mut map = BTreeMap::new();
