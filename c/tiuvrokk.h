@@ -492,7 +492,8 @@ tvk_status tvk_load_sorting(tvk_store *store, uint64_t tx, const tvk_record *rec
                             uint64_t *loaded, uint64_t *holder) TVK_MUST_USE;
 
 /** Adds the records of an array of structs, as tvk_load_sorting does: each struct has its key and its value at the same places,
- * as `layout` says, so keys have one length, and values have one. Nothing is copied but these bytes.
+ * as `layout` says, so keys have one length, and values have one. They are read where they lie. Where they have 128 bytes at
+ * most and come in no order, a run of them at a time is copied first, which is sooner, if memory is to be had.
  *
  * @param[in,out] store   the store
  * @param tx              the transaction

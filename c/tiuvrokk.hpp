@@ -383,8 +383,7 @@ public:
         return load_sorting(std::begin(pairs), std::end(pairs), loaded);
     }
 
-    /* The same of an array of structs, of which nothing is copied but the bytes of their keys and values: `layout` says where
-     * each has its own. */
+    /* The same of an array of structs, of which no pairs are made: `layout` says where each has its own. */
     template <class Struct>
     std::uint64_t load_structs(const Struct *structs, std::size_t number, const tvk_layout &layout, std::uint64_t *loaded = nullptr) {
         return load_all(number, loaded, [&](tvk_key *key, std::uint64_t *, std::uint64_t *count, std::uint64_t *told) {

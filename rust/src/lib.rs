@@ -399,7 +399,7 @@ impl<'s> Transaction<'s> {
     }
 
     /// Adds the records of structs, as [`Transaction::load`] does, where each has its key and its value at the same places.
-    /// Nothing is copied but these bytes.
+    /// They are read where they lie, but for small ones in no order, which are copied a run at a time, if memory is to be had.
     ///
     /// # Errors
     /// Those of [`Transaction::load`]; [`Error::BadKey`] and [`Error::BadValue`], where one is too long or lies outside of its
