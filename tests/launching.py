@@ -168,8 +168,9 @@ def limits() -> None:
 
 
 def main(_words: Sequence[str]) -> None:
-    # (a job in a shell's background begins with this signal ignored, and so would the servers)
+    # (a job in a shell's background begins with these signals ignored, and so would the servers)
     signal.signal(signal.SIGINT, signal.default_int_handler)
+    signal.signal(signal.SIGQUIT, signal.SIG_DFL)
     with tempfile.TemporaryDirectory() as folder:
         program = os.path.join(folder, "stand-in")
         write(program, STAND_IN, 0o755)
