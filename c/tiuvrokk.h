@@ -196,7 +196,7 @@ const char *tvk_text(tvk_status status);
 const char *tvk_version(void);
 
 /** Whether commits merge and clean, of all stores of the program, as they do at first. A commit merges where more than 64 runs have
- * entries: 64 entries, and as many more for each 128 runs, 1,024 at most. It takes away 4,160 entries at most of those that are
+ * entries: 64 entries, and as many more for each 16 runs beyond, 1,024 at most. It takes away 4,160 entries at most of those that are
  * marked as deleted, and none where fewer than one of 64, or than 64, are.
  *
  * @param on  0 leaves it to tvk_tidy, tvk_merge and tvk_clean
